@@ -1,0 +1,12 @@
+pub mod Bytes
+pub mod Counts
+pub mod Dates
+pub mod Faults
+pub mod Keys
+pub mod Kinds
+pub mod Laws
+pub mod Measures
+pub mod Texts
+pub mod Values
+pub mod Verdicts
+pub mod Years
