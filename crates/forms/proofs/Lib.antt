@@ -2,6 +2,7 @@ pub mod CountLaws
 pub mod DateLaws
 pub mod Figures
 pub mod Fronts
+pub mod KindLaws
 pub mod MeasureLaws
 pub mod Verdicts
 pub mod Weights

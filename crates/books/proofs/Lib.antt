@@ -1,0 +1,10 @@
+pub mod Digits
+pub mod Fronts
+pub mod Orders
+pub mod Alike
+pub mod Parts
+pub mod Walks
+pub mod Finds
+pub mod Lengths
+pub mod Grows
+pub mod Judged

@@ -1,0 +1,12 @@
+pub mod Texts
+pub mod Lawful
+pub mod Entries
+pub mod Made
+pub mod Rows
+pub mod Table
+pub mod Rules
+pub mod Words
+pub mod Sound
+pub mod Faults
+pub mod Loads
+pub mod Held

@@ -1,0 +1,32 @@
+-- What a line can mean, over plain lists.
+use mathlib.Core.List.{List}
+use Prim.Native.Nat.{ℕ}
+use Rattle.std.specs.Of.Vec.{vec-items}
+use Rattle.forms.specs.declared.kind.FormKind.{FormKind}
+use Rattle.commands.specs.declared.complaint.Complaint.{Complaint}
+use Rattle.commands.specs.declared.line.Command.{Command}
+use Rattle.commands.specs.declared.line.Command.the-variants.{Turn, Field}
+use Rattle.commands.specs.declared.line.Line.{Line}
+use Rattle.commands.specs.declared.line.Line.the-variants as line
+
+-- a command
+pub data Request : Type 0 where
+  turn : ℕ → Request
+  field : FormKind → List ℕ → Request
+
+-- what a line means
+pub data Meaning : Type 0 where
+  silent : Meaning
+  request : Request → Meaning
+  refusal : Complaint → Meaning
+
+-- the request that a command of the code is
+abbrev pub commandRequest : Command → Request
+commandRequest (Turn y) = turn y
+commandRequest (Field k bytes) = field k (vec-items bytes)
+
+-- what a line of the code means
+abbrev pub lineMeaning : Line → Meaning
+lineMeaning line.Silent = silent
+lineMeaning (line.Command c) = request (commandRequest c)
+lineMeaning (line.Complaint e) = refusal e

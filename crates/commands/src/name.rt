@@ -1,0 +1,60 @@
+// Names in a line.
+ghost use mathlib.Core.Path.{_≡_};
+ghost use mathlib.Core.List.{List};
+ghost use Prim.Native.Nat.{ℕ};
+ghost use Rattle.commands.specs.Names.{firstNamed, formName, commandName};
+use forms::kind::FormKind;
+
+// What has a name in a line.
+pub trait Named: Copy {
+    ghost named: { Self → List ℕ };
+
+    fn name(self) -> &'static str
+        ensures { λ r. ⌜ now r ≡ named self ⌝ };
+}
+
+// The first of `all` that has the name.
+pub fn find<T: Named>(all: &[T], name: &[u8]) -> Option<T>
+    ensures { λ r. ⌜ r ≡ firstNamed (T·Named .named) (now (all .entry)) (now (name .entry)) ⌝ }
+{
+    for x in all {
+        if x.name().as_bytes() == name {
+            return Some(*x);
+        }
+    }
+    None
+}
+
+pub impl Named for FormKind as FormKindNamed {
+    ghost named = { formName };
+
+    fn name(self) -> &'static str {
+        match self {
+            FormKind::Text => "text",
+            FormKind::Digits => "digits",
+            FormKind::Key => "key",
+            FormKind::Date => "date",
+            FormKind::Stamp => "stamp",
+            FormKind::Measure => "measure",
+            FormKind::Count => "count",
+        }
+    }
+}
+
+// The words that commands begin with.
+#[derive(Clone, Copy, Debug, PartialEq, Eq)]
+pub enum CommandWord {
+    Turn,
+    Field,
+}
+
+pub impl Named for CommandWord as CommandWordNamed {
+    ghost named = { commandName };
+
+    fn name(self) -> &'static str {
+        match self {
+            CommandWord::Turn => "turn",
+            CommandWord::Field => "field",
+        }
+    }
+}

@@ -1,0 +1,4 @@
+pub mod Elements
+pub mod Faults
+pub mod Reads
+pub mod Spelling
