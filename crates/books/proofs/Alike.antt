@@ -1,11 +1,12 @@
 -- Idents and entries that say the same are equal: what a type adds to them, that they are lawful, has one proof.
-use mathlib.Core.Path.{_≡_, refl}
-use mathlib.Core.Bool.{Bool, true, false, cond}
+use mathlib.Core.Path.{_≡_, refl, ap}
+use mathlib.Core.Bool.{Bool, true, false, cond, _&&_}
 use mathlib.Core.HLevel.{isProp→PathP}
 use Prim.Native.Nat.{ℕ, suc, _≤_, _<_, _^_}
 use native.Mathlib.Bridge.{le-prop}
-use lib.Dec.{T, T-prop}
+use lib.Dec.{T, T-prop, eqb}
 use Rattle.std.proofs.shelf.Tests.{false≢true}
+use Rattle.std.proofs.shelf.Ways.{decides-eqb, decides-and, decides-like}
 use Rattle.std.specs.Orderings.{Decides}
 use Rattle.books.specs.declared.entry.Entry.{Entry}
 use Rattle.books.specs.declared.ident.Ident.{Ident}
@@ -34,7 +35,21 @@ same-entry d e i f s l = λ k. record {
       (d .ok) (e .ok) k;
 }
 
--- a test that tells parts apart tells the wholes apart
-pub decided : {X : Type 0} (r : Bool) (x y : X) (P Q : Type 0) → cond r P Q → (P → x ≡ y) → (Q → x ≡ y → ⊥) → Decides r (x ≡ y)
-decided true x y P Q h same other = (λ _. same h, λ _. refl)
-decided false x y P Q h same other = (λ t. absurd (false≢true t), λ e. absurd (other h e))
+pub idents-decided : (i j : Ident) → Decides (eqb (i .digits) (j .digits) && eqb (i .number) (j .number)) (i ≡ j)
+idents-decided i j =
+    decides-like (eqb (i .digits) (j .digits) && eqb (i .number) (j .number)) (λ p. same-ident i j (p .0) (p .1)) (λ e. (ap (λ k. k .digits) e, ap (λ k. k .number) e))
+    (decides-and (eqb (i .digits) (j .digits)) (eqb (i .number) (j .number)) (decides-eqb (i .digits) (j .digits)) (decides-eqb (i .number) (j .number)))
+
+-- a test by cases
+pub decided : {X : Type 0} (r : Bool) (x y : X) → cond r (x ≡ y) (x ≡ y → ⊥) → Decides r (x ≡ y)
+decided true x y h = (λ _. h, λ _. refl)
+decided false x y h = (λ t. absurd (false≢true t), λ e. absurd (h e))
+
+pub entries-decided : (d e : Entry) (a b : Bool) → Decides a (d .ident ≡ e .ident) → Decides b (d .form ≡ e .form)
+  → Decides (((a && b) && eqb (d .shortest) (e .shortest)) && eqb (d .longest) (e .longest)) (d ≡ e)
+entries-decided d e a b p q =
+    let s = eqb (d .shortest) (e .shortest) in
+    let l = eqb (d .longest) (e .longest) in
+    decides-like (((a && b) && s) && l) (λ h. same-entry d e (h .0 .0 .0) (h .0 .0 .1) (h .0 .1) (h .1))
+    (λ h. (((ap (λ x. x .ident) h, ap (λ x. x .form) h), ap (λ x. x .shortest) h), ap (λ x. x .longest) h))
+    (decides-and ((a && b) && s) l (decides-and (a && b) s (decides-and a b p q) (decides-eqb (d .shortest) (e .shortest))) (decides-eqb (d .longest) (e .longest)))

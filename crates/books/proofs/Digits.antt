@@ -1,5 +1,5 @@
 -- The digits of an ident.
-use mathlib.Core.Path.{_≡_, refl, subst, sym, ap}
+use mathlib.Core.Path.{_≡_, refl, subst, sym, ap, _∙_}
 use mathlib.Core.Logic.{_⊎_, ⊎-elim}
 use mathlib.Core.List.{List, [], _∷_, _++_}
 use Prim.Native.Nat.{ℕ, zero, suc, _≤_, _<_, _+_, _-_, _/_, _%_, _^_}
@@ -24,11 +24,9 @@ pub length-digits : (d n : ℕ) → length (lastDigits d n) ≡ d
 length-digits zero n = refl
 length-digits (suc d) n = ap suc (length-digits d n)
 
--- a text that was written over the first bytes is there to read
-pub text-read : (d n count : ℕ) (out rest : List ℕ) → count ≡ d → out ≡ lastDigits d n ++ rest → take (count - 0) out ≡ lastDigits d n
-text-read d n count out rest k e =
-    let z : count - 0 ≡ d = omega arith in
-    rw (z, e) (take-at (lastDigits d n) rest d (length-digits d n))
+-- a text that was written is there to read, as the code cuts it
+pub text-read : (d n count : ℕ) (out : List ℕ) → take count out ≡ lastDigits d n → take (count - 0) out ≡ lastDigits d n
+text-read d n count out e = let z : count - 0 ≡ count = omega arith in rw z e
 
 -- the first two digits, as a number
 pub lead-is : (n d : ℕ) → 2 ≤ d → d ≤ 4 → n < 10 ^ d → n / 10 ^ (d - 2) ≡ lead (lastDigits d n)
@@ -36,10 +34,11 @@ lead-is n = at-digits (λ d. n < 10 ^ d → n / 10 ^ (d - 2) ≡ lead (lastDigit
 
 -- four digits, of which the last are put over the first bytes
 pub written : (n d a b e f : ℕ) (out mid : List ℕ) → 2 ≤ d → d ≤ 4
-    → a ≡ 48 + n / 10 ^ 3 % 10 → b ≡ 48 + n / 10 ^ 2 % 10 → e ≡ 48 + n / 10 ^ 1 % 10 → f ≡ 48 + n / 10 ^ 0 % 10
-    → mid ≡ take (4 - (4 - d)) (drop (4 - d) (a ∷ b ∷ e ∷ f ∷ []))
-    → mid ++ drop (d - 0) out ≡ lastDigits d n ++ drop d out
+  → a ≡ 48 + n / 10 ^ 3 % 10 → b ≡ 48 + n / 10 ^ 2 % 10 → e ≡ 48 + n / 10 ^ 1 % 10 → f ≡ 48 + n / 10 ^ 0 % 10
+  → mid ≡ take (4 - (4 - d)) (drop (4 - d) (a ∷ b ∷ e ∷ f ∷ []))
+  → (take d (mid ++ drop (d - 0) out) ≡ lastDigits d n) × (mid ++ drop (d - 0) out ≡ lastDigits d n ++ drop d out)
 written n d a b e f out mid l h ia ib ie if is =
     let four = last-of-four n d l h in
     let behind : d - 0 ≡ d = omega arith in
-    cc
+    let all : mid ++ drop (d - 0) out ≡ lastDigits d n ++ drop d out = cc in
+    (ap (take d) all ∙ take-at (lastDigits d n) (drop d out) d (length-digits d n), all)

@@ -14,7 +14,7 @@ use Rattle.std.specs.declared.option.Option.the-variants.{Some, None}
 use Rattle.books.specs.declared.entry.Entry.{Entry}
 use Rattle.books.specs.declared.fault.BookFault.{BookFault}
 use Rattle.books.specs.Entries.{prefixFree, joined, listed}
-use Rattle.books.specs.Words.{wordEntry, allWords, isBook}
+use Rattle.books.specs.Words.{wordEntry, allWords, isBook, Sound}
 use Rattle.books.specs.Loads.{wordFault, firstOf, faultFrom, firstFault}
 use Rattle.books.proofs.Grows.{no-fault, book-more, book-less}
 
@@ -43,10 +43,6 @@ is-T b e = subst T (sym e) tt
 
 T-is : (b : Bool) → T b → b ≡ true
 T-is b t = elim b as (λ v. T v → v ≡ true) [ true ↦ λ _. refl | false ↦ λ f. absurd f ] t
-
--- words with no fault are a book
-pub no-fault-book : (ws : List ℕ) → firstFault ws ≡ None → T (isBook ws)
-no-fault-book ws e = is-T (isBook ws) (from-none [] ws refl e)
 
 -- words with a fault are no book
 pub fault-no-book : (ws : List ℕ) (f : BookFault) → firstFault ws ≡ Some f → T (isBook ws) → ⊥
@@ -83,8 +79,9 @@ words-length (w ∷ ws) e =
     let both = and-parts (isSome (wordEntry w)) (allWords ws) e in
     ap suc (words-length ws (both .1)) ∙ sym (some-length (wordEntry w) (listed wordEntry ws) (both .0))
 
--- a book of words has as many entries as words, and at most 64
-pub book-length : (ws : List ℕ) → T (isBook ws) → (length ws ≡ length (listed wordEntry ws)) × (length ws ≤ 64)
-book-length ws t =
-    let p = and-parts (allWords ws) _ (T-is (isBook ws) t) in
-    (words-length ws (p .0), leb-true (length ws) 64 (and-parts (prefixFree (listed wordEntry ws)) (leb (length ws) 64) (p .1) .1))
+-- words with no fault are a book, of as many entries as words, and at most 64
+pub no-fault-sound : (ws : List ℕ) → firstFault ws ≡ None → Sound ws
+no-fault-sound ws e =
+    let b = from-none [] ws refl e in
+    let p = and-parts (allWords ws) _ b in
+    (leb-true (length ws) 64 (and-parts (prefixFree (listed wordEntry ws)) (leb (length ws) 64) (p .1) .1), words-length ws (p .0), is-T (isBook ws) b)

@@ -1,8 +1,9 @@
 -- The 32-bit words of a hall's book, and which lists of them are a book.
 use mathlib.Core.Bool.{Bool, true, false, cond, _&&_}
+use mathlib.Core.Path.{_≡_}
 use mathlib.Core.List.{List, [], _∷_}
-use Prim.Native.Nat.{ℕ, _+_, _/_, _%_, _^_}
-use lib.Dec.{eqb, leb}
+use Prim.Native.Nat.{ℕ, _+_, _/_, _%_, _^_, _≤_}
+use lib.Dec.{T, eqb, leb}
 use lib.ListN.{length}
 use Rattle.std.specs.Options.{isSome}
 use Rattle.std.specs.declared.option.Option.{Option}
@@ -46,3 +47,7 @@ allWords (w ∷ ws) = isSome (wordEntry w) && allWords ws
 -- the words are a book: at most 64 lawful entries, of which no ident equals or begins another
 abbrev pub isBook : List ℕ → Bool
 isBook ws = allWords ws && (prefixFree (listed wordEntry ws) && leb (length ws) 64)
+
+-- a book, with what it says of its words' number: at most 64, and an entry for each
+abbrev pub Sound : List ℕ → Type 0
+Sound ws = (length ws ≤ 64) × (length ws ≡ length (listed wordEntry ws)) × T (isBook ws)

@@ -7,13 +7,13 @@ ghost use Rattle.std.specs.Orderings.{Decides};
 ghost use Rattle.books.specs.Lawful.{inBounds, formAllows, fills, lawful};
 use crate::ident::Ident;
 use crate::ident::IdentDebug;
-use crate::ident::IdentPartialEq;
+use crate::ident::IdentEquals;
 use forms::kind::FormKind;
 use forms::kind::FormKindDebug;
 use forms::kind::FormKindPartialEq;
 
 // A lawful entry: lengths in bytes that its form allows, and that make up the length that its ident predefines, if it does.
-#[derive(Clone, Copy, Debug, PartialEq, Eq)]
+#[derive(Clone, Copy, Debug)]
 pub struct Entry {
     pub ident: Ident,
     pub form: FormKind,
@@ -23,6 +23,18 @@ pub struct Entry {
     ghost ordered: { shortest ≤ longest },
     ghost most: { longest ≤ 30 },
     ghost ok: { T (lawful (ident .digits) (ident .number) form shortest longest) },
+}
+
+// Entries are equal where all that they say is.
+pub impl PartialEq<Entry> for Entry as EntryEquals {
+    ghost equals = { λ a b r. Decides r (a ≡ b) };
+
+    fn eq(&self, other: &Entry) -> bool {
+        (self.ident == other.ident)
+            & (self.form == other.form)
+            & (self.shortest == other.shortest)
+            & (self.longest == other.longest)
+    }
 }
 
 // Whether a field may have these lengths at all: 1 to 30 bytes.

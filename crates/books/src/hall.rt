@@ -14,7 +14,7 @@ ghost use Rattle.books.specs.Loads.{firstFault};
 use crate::book::Book;
 use crate::entry::Entry;
 use crate::fault::BookFault;
-use crate::load::judge;
+use crate::load::first_fault;
 use crate::spelled::look;
 use crate::word::WordSpells;
 
@@ -22,6 +22,8 @@ use crate::word::WordSpells;
 #[derive(Clone, Copy)]
 pub struct HallBook<'a> {
     words: &'a [u32],
+    ghost few: { length (now words) ≤ 64 },
+    ghost each: { length (now words) ≡ length (listed wordEntry (now words)) },
     ghost ok: { T (isBook (now words)) },
 }
 
@@ -47,10 +49,8 @@ impl<'a> HallBook<'a> {
         ensures book { λ r. ⌜ Cases r (λ _. T (isBook (now (words .entry)))) (λ _. T (isBook (now (words .entry))) → ⊥) ⌝ }
         ensures held { λ r. ⌜ Cases r (λ _. now (self .exit) .words ≡ words .entry) (λ _. now (self .exit) ≡ now (self .entry)) ⌝ }
     {
-        for (i, word) in words.iter().enumerate() {
-            if let Some(fault) = judge(&words[0..i], *word) {
-                return Err(fault);
-            }
+        if let Some(fault) = first_fault(words) {
+            return Err(fault);
         }
         self.words = words;
         Ok(())

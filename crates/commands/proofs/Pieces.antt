@@ -1,14 +1,14 @@
 -- A number alone in its arguments is one piece.
 use mathlib.Core.Path.{_≡_, refl, sym, ap, _∙_}
-use mathlib.Core.Bool.{Bool, true, false, cond, _&&_}
+use mathlib.Core.Bool.{false}
 use mathlib.Core.List.{List, [], _∷_}
 use mathlib.Core.Logic.{_⊎_, inl, inr, ⊎-elim}
 use Prim.Native.Nat.{ℕ}
-use lib.Dec.{eqb, leb}
-use Rattle.std.specs.declared.option.Option.the-variants.{Some, None}
+use lib.Dec.{eqb}
+use Rattle.std.specs.declared.option.Option.the-variants.{None}
 use Rattle.std.proofs.shelf.Tests.{eqb-true, and-right, cases-bool}
-use Rattle.forms.specs.Bytes.{digit, every, number}
-use Rattle.commands.specs.Numerals.{numeral, numberUpTo}
+use Rattle.forms.specs.Bytes.{digit, every}
+use Rattle.commands.specs.Numerals.{numberUpTo}
 use Rattle.commands.specs.Meanings.{onlyNumber}
 use Rattle.commands.specs.Words.{longer, pieces}
 

@@ -1,7 +1,7 @@
 -- Numbers, read digit by digit.
 use mathlib.Core.Path.{_≡_, refl, sym, ap, _∙_}
 use mathlib.Core.List.{List, [], _∷_}
-use mathlib.Core.Bool.{Bool, true, false, cond, _&&_}
+use mathlib.Core.Bool.{true, false, cond, _&&_}
 use Prim.Native.Nat.{ℕ, _+_, _-_, _*_, _<_, _≤_}
 use native.Mathlib.Omega.{arith}
 use lib.Dec.{leb}
@@ -11,7 +11,7 @@ use Rattle.std.specs.declared.option.Option.the-variants.{Some, None}
 use Rattle.std.proofs.shelf.Lists.{drop-more, drop-all}
 use Rattle.std.proofs.shelf.Tests.{and-right, lt-leb, leb-false, le-leb}
 use Rattle.std.proofs.shelf.Ways.{tells}
-use Rattle.forms.specs.Bytes.{digit, every, number, numberOn}
+use Rattle.forms.specs.Bytes.{digit, every, numberOn}
 use Rattle.commands.specs.Numerals.{numberUpTo}
 
 -- what the number n comes to with the digits that are left
@@ -62,7 +62,3 @@ module _ (most n : ℕ) (bs : List ℕ) (i : ℕ) (l : i < length bs) where
 -- at the end of the digits
 pub at-end : (most n : ℕ) (bs : List ℕ) (i : ℕ) → length bs ≤ i → n ≤ most → readOn most n (drop i bs) ≡ Some n
 at-end most n bs i l h = let t = le-leb n most h in rw (drop-all i bs l, t)
-
--- a number that was read is at most the most
-pub number-fits : (most n : ℕ) (bs : List ℕ) → Some n ≡ numberUpTo most bs → n ≤ most
-number-fits most n bs e = grind (arith, tells)

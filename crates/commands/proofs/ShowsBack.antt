@@ -1,6 +1,6 @@
 -- What is shown, byte by byte, and that it reads back.
 use mathlib.Core.Path.{_≡_, refl, sym, ap, _∙_}
-use mathlib.Core.Bool.{Bool, true, false, cond, not, _&&_}
+use mathlib.Core.Bool.{true, cond}
 use mathlib.Core.List.{List, [], _∷_, _++_}
 use Prim.Native.Nat.{ℕ, _+_, _*_, _/_, _%_, _<_, _≤_}
 use native.Mathlib.Omega.{arith}
@@ -8,8 +8,7 @@ use lib.Dec.{eqb}
 use lib.ListN.{length, getD, take}
 use mir.Syntax.{w8}
 use mir.Val.{Fits}
-use Rattle.std.specs.declared.option.Option.{Option}
-use Rattle.std.specs.declared.option.Option.the-variants.{Some, None}
+use Rattle.std.specs.declared.option.Option.the-variants.{Some}
 use Rattle.std.specs.shelf.Lists.{All}
 use Rattle.std.proofs.shelf.Elements.{all-from-getD}
 use Rattle.std.proofs.shelf.Lists.{joined-more, take-more, take-all, take-at}
@@ -55,8 +54,8 @@ front-shown b rest l =
     cond-both (eqb b 29) (94 ∷ []) (cond (plain b) (b ∷ []) (92 ∷ hexDigit (b / 16) ∷ hexDigit (b % 16) ∷ [])) P
     (λ e. ap (λ n. Some (n, rest)) (sym (eqb-true b 29 e)))
     (λ _. cond-both (plain b) (b ∷ []) (92 ∷ hexDigit (b / 16) ∷ hexDigit (b % 16) ∷ []) P
-      (λ e. let n = plain-not b e in front-plain-byte b rest (n .0) (n .1))
-      (λ _. hex-front b rest l))
+    (λ e. let n = plain-not b e in front-plain-byte b rest (n .0) (n .1))
+    (λ _. hex-front b rest l))
 
 -- what is shown reads back
 reads-back : (bs : List ℕ) → All (λ b. b < 256) bs → ReadsBack bs

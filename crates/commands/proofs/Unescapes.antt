@@ -8,7 +8,7 @@ use lib.Dec.{eqb}
 use lib.ListN.{length}
 use Rattle.std.specs.declared.option.Option.{Option}
 use Rattle.std.specs.declared.option.Option.the-variants.{Some, None}
-use Rattle.commands.specs.Escapes.{hexValue, hexByte, plainByte, withRest, escapedByte, frontByte, before, unescaped}
+use Rattle.commands.specs.Escapes.{hexValue, hexByte, plainByte, withRest, frontByte, before, unescaped}
 
 -- what the first byte and the rest come to
 abbrev whole : Option (ℕ × List ℕ) → Option (List ℕ)
@@ -60,8 +60,3 @@ pub at-close : (got xs : List ℕ) → length xs ≡ 0 → onto got (unescaped x
 unfolding unescaped
 at-close got [] e = ap Some (append-nil got)
 at-close got (x ∷ xs) e = absurd (omega arith)
-
--- before the first byte
-pub onto-nothing : (o : Option (List ℕ)) → onto [] o ≡ o
-onto-nothing None = refl
-onto-nothing (Some ys) = refl

@@ -1,5 +1,5 @@
 -- Bytes as a line writes them: '^' (94) is byte 29, a backslash (92) and two hexadecimal digits are that byte, any other byte is itself.
-use mathlib.Core.Bool.{Bool, cond, _&&_}
+use mathlib.Core.Bool.{cond}
 use mathlib.Core.List.{List, [], _∷_}
 use Prim.Native.Nat.{ℕ, _+_, _-_, _*_}
 use lib.Dec.{eqb}

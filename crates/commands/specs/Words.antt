@@ -1,18 +1,22 @@
 -- How a line is cut.
-use mathlib.Core.Bool.{cond}
+use mathlib.Core.Bool.{Bool, cond, not}
 use mathlib.Core.List.{List, [], _∷_}
-use Prim.Native.Nat.{ℕ}
+use Prim.Native.Nat.{ℕ, _+_, _-_}
 use lib.Dec.{eqb}
+use lib.ListN.{length, getD, take, drop}
+use Rattle.std.specs.shelf.Lists.{leading}
+
+-- any byte but the space
+abbrev pub solid : ℕ → Bool
+solid b = not (eqb b 32)
 
 -- what stands before the first space: all where there is none
 abbrev pub word : List ℕ → List ℕ
-word [] = []
-word (b ∷ bs) = cond (eqb b 32) [] (b ∷ word bs)
+word bs = take (leading solid bs) bs
 
 -- what stands behind the first space: nothing where there is none
 abbrev pub behind : List ℕ → List ℕ
-behind [] = []
-behind (b ∷ bs) = cond (eqb b 32) bs (behind bs)
+behind bs = drop (leading solid bs + 1) bs
 
 -- one byte more in front of the first piece
 abbrev pub longer : ℕ → List (List ℕ) → List (List ℕ)
@@ -24,8 +28,6 @@ abbrev pub pieces : List ℕ → List (List ℕ)
 pieces [] = [] ∷ []
 pieces (b ∷ bs) = cond (eqb b 32) ([] ∷ pieces bs) (longer b (pieces bs))
 
--- a line without the byte 13 at its end, if one stands there
+-- a line without its last byte, if that is 13
 abbrev pub trimmedLine : List ℕ → List ℕ
-trimmedLine [] = []
-trimmedLine (b ∷ []) = cond (eqb b 13) [] (b ∷ [])
-trimmedLine (b ∷ c ∷ bs) = b ∷ trimmedLine (c ∷ bs)
+trimmedLine bs = cond (eqb (getD bs (length bs - 1) 0) 13) (take (length bs - 1) bs) bs

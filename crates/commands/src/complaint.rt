@@ -28,6 +28,7 @@ impl Complaint {
     }
 }
 
+// Writes the text.
 pub impl fmt::Display for Complaint as ComplaintDisplay {
     ghost shown = { λ c. Some (complaintText c) };
 

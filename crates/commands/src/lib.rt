@@ -3,10 +3,9 @@ pub mod complaint;
 pub mod cut;
 pub mod escape;
 pub mod line;
-pub mod name;
+mod name;
 pub mod number;
 pub mod parse;
 pub mod show;
-
 #[cfg(test)]
 mod tests;

@@ -16,6 +16,8 @@ pub enum Command {
 pub enum Line {
     // an empty line or a remark, which gets no answer
     Silent,
+    // a command
     Command(Command),
+    // no command, and why
     Complaint(Complaint),
 }

@@ -6,7 +6,7 @@ ghost use Rattle.commands.specs.Names.{firstNamed, formName, commandName};
 use forms::kind::FormKind;
 
 // What has a name in a line.
-pub trait Named: Copy {
+pub(crate) trait Named: Copy {
     ghost named: { Self → List ℕ };
 
     fn name(self) -> &'static str
@@ -14,7 +14,7 @@ pub trait Named: Copy {
 }
 
 // The first of `all` that has the name.
-pub fn find<T: Named>(all: &[T], name: &[u8]) -> Option<T>
+pub(crate) fn find<T: Named>(all: &[T], name: &[u8]) -> Option<T>
     ensures { λ r. ⌜ r ≡ firstNamed (T·Named .named) (now (all .entry)) (now (name .entry)) ⌝ }
 {
     for x in all {
@@ -25,7 +25,8 @@ pub fn find<T: Named>(all: &[T], name: &[u8]) -> Option<T>
     None
 }
 
-pub impl Named for FormKind as FormKindNamed {
+// The names of the forms.
+pub(crate) impl Named for FormKind as FormKindNamed {
     ghost named = { formName };
 
     fn name(self) -> &'static str {
@@ -43,12 +44,12 @@ pub impl Named for FormKind as FormKindNamed {
 
 // The words that commands begin with.
 #[derive(Clone, Copy, Debug, PartialEq, Eq)]
-pub enum CommandWord {
+pub(crate) enum CommandWord {
     Turn,
     Field,
 }
 
-pub impl Named for CommandWord as CommandWordNamed {
+pub(crate) impl Named for CommandWord as CommandWordNamed {
     ghost named = { commandName };
 
     fn name(self) -> &'static str {

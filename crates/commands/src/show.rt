@@ -1,12 +1,14 @@
-// Bytes as they are shown.
+// Bytes and numbers as they are shown.
 ghost use mathlib.Core.Path.{_≡_};
 ghost use mathlib.Core.Bool.{cond};
 ghost use mathlib.Core.List.{_++_};
 ghost use Prim.Native.Nat.{_<_};
 ghost use Rattle.std.specs.Of.Vec.{vec-items};
 ghost use Rattle.std.specs.Results.{isOk};
+ghost use Rattle.std.specs.Written.{decimal};
 ghost use Rattle.commands.specs.Shows.{hexDigit, shownByte, shownBytes, ReadsBack};
 use std::alloc::AllocError;
+use std::alloc::Global;
 
 // The capital hexadecimal digit of that value.
 fn hex_digit(value: u8) -> u8
@@ -46,4 +48,12 @@ pub fn show(bytes: &[u8], out: &mut Vec<u8>) -> Result<(), AllocError>
         }
     }
     Ok(())
+}
+
+// Adds to `out` the number in decimal; where there is no memory, nothing.
+pub fn show_number(heap: Global, n: u128, out: &mut Vec<u8>) -> Result<(), AllocError>
+    ensures { λ r. ⌜ vec-items (now (out .exit)) ≡ cond (isOk r) (vec-items (now (out .entry)) ++ decimal n) (vec-items (now (out .entry))) ⌝ }
+{
+    let digits = n.to_string(heap)?;
+    out.extend_from_slice(digits.as_bytes())
 }

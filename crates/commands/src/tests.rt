@@ -37,7 +37,12 @@ fn turns(rt: LibcRuntime) -> Result<(), Fail> {
 #[test]
 fn fields(rt: LibcRuntime) -> Result<(), Fail> {
     match parse(rt.alloc(), b"field key ^a\\fF b")? {
-        Line::Command(Command::Field { kind: FormKind::Key, bytes }) => {
+        Line::Command(
+            Command::Field {
+                kind: FormKind::Key,
+                bytes,
+            },
+        ) => {
             let mut out = Vec::new(rt.alloc());
             show(&bytes, &mut out)?;
             check(out.as_slice() == b"^a\\FF b")
@@ -49,7 +54,9 @@ fn fields(rt: LibcRuntime) -> Result<(), Fail> {
 #[test]
 fn complaints(rt: LibcRuntime) -> Result<(), Fail> {
     match parse(rt.alloc(), b"field key \\0g")? {
-        Line::Complaint(complaint) => check(format!(rt.alloc(), "{complaint}")?.as_str() == "? bad escape"),
+        Line::Complaint(complaint) => check(
+            format!(rt.alloc(), "{complaint}")?.as_str() == "? bad escape",
+        ),
         _ => Err(Fail::new("no complaint")),
     }
 }

@@ -40,7 +40,7 @@ pub impl ByteClass for DigitByte as DigitByteClass {
 }
 
 // How many bytes of `field` stand before the first that is not of the class.
-pub(crate) fn passed<C: ByteClass>(field: &[u8]) -> usize
+pub fn passed<C: ByteClass>(field: &[u8]) -> usize
     ensures { λ r. ⌜ r ≡ leading (C·ByteClass .holds) (now (field .entry)) ⌝ }
 {
     for (i, b) in field.iter().enumerate() {

@@ -23,6 +23,12 @@ pub enum ScanFault {
     Length { place: usize },
     // the field has a fault, which is told whole
     Field(FieldFault),
+    // the ident equals, begins or is begun by that of a held element of another entry; the ident
+    Clash { place: usize },
+    // held with another value; the ident
+    Differs { place: usize },
+    // as many others as can be are held; the ident
+    Full { place: usize },
 }
 
 pub impl From<FieldFault> for ScanFault as ScanFaultFromField {
@@ -47,12 +53,16 @@ pub impl Fault for ScanFault as ScanFaultTells {
             ScanFault::Unknown { .. } => 3,
             ScanFault::Length { .. } => 4,
             ScanFault::Field(fault) => fault.number(),
+            ScanFault::Clash { .. } => 9,
+            ScanFault::Differs { .. } => 10,
+            ScanFault::Full { .. } => 11,
         }
     }
 
     fn layer(&self) -> Layer {
         match self {
             ScanFault::Field(fault) => fault.layer(),
+            ScanFault::Clash { .. } | ScanFault::Differs { .. } | ScanFault::Full { .. } => Layer::Card,
             _ => Layer::Scan,
         }
     }
@@ -62,7 +72,10 @@ pub impl Fault for ScanFault as ScanFaultTells {
             ScanFault::NoMark => 0,
             ScanFault::Separator { place }
             | ScanFault::Unknown { place }
-            | ScanFault::Length { place } => *place as u128,
+            | ScanFault::Length { place }
+            | ScanFault::Clash { place }
+            | ScanFault::Differs { place }
+            | ScanFault::Full { place } => *place as u128,
             ScanFault::Field(fault) => fault.place(),
         }
     }

@@ -1,18 +1,22 @@
+use mathlib.Core.Path.{sym, ap, _∙_}
 use Prim.Native.Nat.{_+_}
 use native.Mathlib.Nat.{sub-zero}
-use Rattle.std.proofs.shelf.Lists.{take-rest}
-use Rattle.commands.proofs.Cuts.{cut-here, cut-later, cut-nowhere}
+use native.Mathlib.Omega.{arith}
+use lib.ListN.{take, drop}
+use Rattle.std.proofs.shelf.Lists.{take-rest, take-all, drop-all}
 use Rattle.commands.proofs.cut.split_word.Needs as need
 
-pub returns-then-b-eq32 : need.returns-then-b-eq32
-returns-then-b-eq32 c =
-    let h = cut-here (c .args .bytes .now) (c .loop-i .i) (c .loop-i-test .taken) (c .if-b-eq32 .taken) (c .loop-i .inv) in
-    record { front = simp sub-zero (h .0); back = simp take-rest (h .1) }
+pub returns-then-n-bytes : need.returns-then-n-bytes
+returns-then-n-bytes c =
+    let bs = c .args .bytes .now in
+    let e = c .passed-n .ensures in
+    record { front = simp sub-zero (ap (λ n. take n bs) e); back = simp take-rest (ap (λ n. drop (n + 1) bs) e) }
 
-pub loop-i-again : need.loop-i-again
-loop-i-again c = cut-later (c .args .bytes .now) (c .loop-i .i) (c .loop-i-test .taken) (c .if-b-eq32 .left) (c .loop-i .inv)
-
-pub returns : need.returns
-returns c =
-    let h = cut-nowhere (c .args .bytes .now) (c .loop-i .i) (c .loop-i-test .left) (c .loop-i .inv) in
-    record { front = h .0; back = h .1 }
+pub returns-else-n-bytes : need.returns-else-n-bytes
+returns-else-n-bytes c =
+    let bs = c .args .bytes .now in
+    let e = c .passed-n .ensures in
+    record {
+      front = sym (take-all (c .passed-n .result) bs (c .if-n-bytes .left)) ∙ ap (λ n. take n bs) e;
+      back = sym (drop-all (c .passed-n .result + 1) bs (omega arith)) ∙ ap (λ n. drop (n + 1) bs) e;
+    }

@@ -1,13 +1,15 @@
+use mathlib.Core.Path.{_≡_, refl}
+use mathlib.Core.List.{List, [], _∷_}
+use Prim.Native.Nat.{ℕ, _<_}
 use native.Mathlib.Omega.{arith}
 use borrow.Author.Needs.{needs}
-use Rattle.commands.proofs.Cuts.{trim-13, trim-other, trim-none}
+use lib.ListN.{length}
+use Rattle.commands.specs.Words.{trimmedLine}
 use Rattle.commands.proofs.cut.trimmed.Needs as need
 
-pub returns-in-13 : need.returns-in-13
-returns-in-13 c = trim-13 (c .args .line .now) (search needs) (search needs)
+empty : (bs : List ℕ) → length bs < 1 → bs ≡ trimmedLine bs
+empty [] l = refl
+empty (b ∷ bs) l = absurd (omega arith)
 
 pub returns-in-rest : need.returns-in-rest
-returns-in-rest c = trim-none (c .args .line .now) (search needs)
-
-pub returns-in-rest·2 : need.returns-in-rest·2
-returns-in-rest·2 c = trim-other (c .args .line .now) (search needs) (search needs)
+returns-in-rest c = empty (c .args .line .now) (search needs)

@@ -1,0 +1,5 @@
+pub mod Codes
+pub mod Faults
+pub mod Outcomes
+pub mod Strings
+pub mod Tallies

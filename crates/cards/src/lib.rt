@@ -1,0 +1,2 @@
+// The card of a lane: a year and the elements of a pallet.
+pub mod fault;

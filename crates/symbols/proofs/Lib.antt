@@ -1,0 +1,10 @@
+pub mod Checks
+pub mod Steps
+pub mod Walks
+pub mod Frames
+pub mod Aheads
+pub mod Turns
+pub mod Rounds
+pub mod Overs
+pub mod Runs
+pub mod Calls
