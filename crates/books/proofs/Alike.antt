@@ -2,7 +2,7 @@
 use mathlib.Core.Path.{_≡_, refl, ap}
 use mathlib.Core.Bool.{Bool, true, false, cond, _&&_}
 use mathlib.Core.HLevel.{isProp→PathP}
-use Prim.Native.Nat.{ℕ, suc, _≤_, _<_, _^_}
+use Prim.Native.Nat.{_≤_, _<_, _^_}
 use native.Mathlib.Bridge.{le-prop}
 use lib.Dec.{T, T-prop, eqb}
 use Rattle.std.proofs.shelf.Tests.{false≢true}
@@ -46,7 +46,7 @@ decided true x y h = (λ _. h, λ _. refl)
 decided false x y h = (λ t. absurd (false≢true t), λ e. absurd (h e))
 
 pub entries-decided : (d e : Entry) (a b : Bool) → Decides a (d .ident ≡ e .ident) → Decides b (d .form ≡ e .form)
-  → Decides (((a && b) && eqb (d .shortest) (e .shortest)) && eqb (d .longest) (e .longest)) (d ≡ e)
+    → Decides (((a && b) && eqb (d .shortest) (e .shortest)) && eqb (d .longest) (e .longest)) (d ≡ e)
 entries-decided d e a b p q =
     let s = eqb (d .shortest) (e .shortest) in
     let l = eqb (d .longest) (e .longest) in

@@ -34,9 +34,9 @@ lead-is n = at-digits (λ d. n < 10 ^ d → n / 10 ^ (d - 2) ≡ lead (lastDigit
 
 -- four digits, of which the last are put over the first bytes
 pub written : (n d a b e f : ℕ) (out mid : List ℕ) → 2 ≤ d → d ≤ 4
-  → a ≡ 48 + n / 10 ^ 3 % 10 → b ≡ 48 + n / 10 ^ 2 % 10 → e ≡ 48 + n / 10 ^ 1 % 10 → f ≡ 48 + n / 10 ^ 0 % 10
-  → mid ≡ take (4 - (4 - d)) (drop (4 - d) (a ∷ b ∷ e ∷ f ∷ []))
-  → (take d (mid ++ drop (d - 0) out) ≡ lastDigits d n) × (mid ++ drop (d - 0) out ≡ lastDigits d n ++ drop d out)
+    → a ≡ 48 + n / 10 ^ 3 % 10 → b ≡ 48 + n / 10 ^ 2 % 10 → e ≡ 48 + n / 10 ^ 1 % 10 → f ≡ 48 + n / 10 ^ 0 % 10
+    → mid ≡ take (4 - (4 - d)) (drop (4 - d) (a ∷ b ∷ e ∷ f ∷ []))
+    → (take d (mid ++ drop (d - 0) out) ≡ lastDigits d n) × (mid ++ drop (d - 0) out ≡ lastDigits d n ++ drop d out)
 written n d a b e f out mid l h ia ib ie if is =
     let four = last-of-four n d l h in
     let behind : d - 0 ≡ d = omega arith in

@@ -1,13 +1,13 @@
 -- What a book finds, from what every book is: a list of lawful entries, of which no ident equals or begins another.
-use mathlib.Core.Path.{_≡_, refl, sym, ap, subst, _∙_}
-use mathlib.Core.Bool.{Bool, true, false, cond, not, _&&_, _||_}
+use mathlib.Core.Path.{_≡_, refl, sym, ap, _∙_}
+use mathlib.Core.Bool.{Bool, true, false, cond, not}
 use mathlib.Core.List.{List, [], _∷_, _++_}
 use mathlib.Core.Logic.{_⊎_, inl, inr, ⊎-elim}
 use Prim.Native.Nat.{ℕ}
 use native.Mathlib.Omega.{arith}
 use lib.Dec.{T, eqb}
 use lib.ListN.{length, drop}
-use Rattle.std.proofs.shelf.Tests.{false≢true, true≢false, and-parts, and-from, or-left, or-right, eqb-true, eq-eqb, both-ways, not-true, cases-bool}
+use Rattle.std.proofs.shelf.Tests.{false≢true, and-parts, eqb-true, eq-eqb, both-ways, not-true, cases-bool}
 use Rattle.std.specs.declared.option.Option.{Option}
 use Rattle.std.specs.declared.option.Option.the-variants.{Some, None}
 use Rattle.books.specs.declared.entry.Entry.{Entry}

@@ -1,14 +1,14 @@
 -- Lists of bytes that begin with another, and their order.
-use mathlib.Core.Path.{_≡_, refl, sym, ap, subst, _∙_}
-use mathlib.Core.Bool.{Bool, true, false, cond, not, Bool·beq, _&&_, _||_}
+use mathlib.Core.Path.{_≡_, refl, ap, _∙_}
+use mathlib.Core.Bool.{Bool, true}
 use mathlib.Core.List.{List, [], _∷_, _++_}
 use Prim.Native.Nat.{ℕ, _<_}
 use native.Mathlib.Omega.{arith}
-use lib.Dec.{eqb, ltb}
+use lib.Dec.{eqb}
 use lib.ListN.{length, take, drop}
 use Rattle.std.proofs.shelf.Equals.{starts-is}
 use Rattle.std.proofs.shelf.Orders.{same-from-lex-tested}
-use Rattle.std.proofs.shelf.Tests.{true≢false, false≢true, and-parts, eqb-true, eq-eqb}
+use Rattle.std.proofs.shelf.Tests.{and-parts, eqb-true, eq-eqb}
 use Rattle.std.proofs.shelf.Ways.{tells, same-from-decides}
 use Rattle.std.specs.Lexical.{Matches, LexSome}
 use Rattle.std.specs.Options.{SomeBy}
@@ -41,17 +41,3 @@ pub order-tested : (xs ys : List ℕ) (r : Bool) → Tested (LexSome (λ x y o. 
 order-tested =
     same-from-lex-tested (λ x y k. Ranked k (x < y) (x ≡ y) (y < x)) isLt comesFirst refl (λ _ _. refl) (λ _ _. refl)
     (λ x y xs ys o h. grind (arith, tells))
-
--- where both or neither are predefined, the texts decide
-pub rank-same : (p q : Bool) (xs ys : List ℕ) → not (Bool·beq p q) ≡ false → comesFirst xs ys ≡ comesFirst (cond p 0 1 ∷ xs) (cond q 0 1 ∷ ys)
-rank-same true true xs ys e = refl
-rank-same true false xs ys e = absurd (true≢false e)
-rank-same false true xs ys e = absurd (true≢false e)
-rank-same false false xs ys e = refl
-
--- where one is predefined, it comes first
-pub rank-apart : (p q : Bool) (xs ys : List ℕ) → not (Bool·beq p q) ≡ true → p ≡ comesFirst (cond p 0 1 ∷ xs) (cond q 0 1 ∷ ys)
-rank-apart true true xs ys n = absurd (false≢true n)
-rank-apart true false xs ys n = refl
-rank-apart false true xs ys n = refl
-rank-apart false false xs ys n = absurd (false≢true n)

@@ -1,6 +1,6 @@
 -- The order of texts: no two come before each other, and of two that differ one comes first.
 use mathlib.Core.Path.{_≡_, refl, sym, ap, _∙_}
-use mathlib.Core.Bool.{Bool, true, false, cond, _&&_, _||_}
+use mathlib.Core.Bool.{Bool, true, false, cond}
 use mathlib.Core.List.{List, [], _∷_}
 use mathlib.Core.Logic.{_⊎_, inl, inr, ⊎-elim}
 use Prim.Native.Nat.{ℕ, _<_, _≤_, _+_, _-_, _*_, _/_, _%_, _^_}
@@ -8,7 +8,7 @@ use native.Mathlib.Nat.{div-div-eq-div-mul}
 use native.Mathlib.Omega.{arith}
 use lib.Dec.{eqb, ltb}
 use lib.ListN.{length}
-use Rattle.std.proofs.shelf.Tests.{false≢true, true≢false, and-parts, and-from, or-cases, or-left, or-right, ltb-true, lt-ltb, le-ltb, eqb-true, eq-eqb, ne-eqb, cases-order}
+use Rattle.std.proofs.shelf.Tests.{false≢true, and-parts, and-from, or-cases, or-left, or-right, ltb-true, lt-ltb, le-ltb, eqb-true, eq-eqb, cases-order}
 use Rattle.forms.specs.Bytes.{lastDigits, number}
 use Rattle.books.specs.declared.ident.Ident.{Ident}
 use Rattle.books.specs.Texts.{comesFirst, predefined, rank}

@@ -1,19 +1,17 @@
 -- An entry by its parts.
-use mathlib.Core.Path.{_≡_, refl, sym, ap, subst, _∙_}
-use mathlib.Core.Bool.{Bool, true, false, cond, _&&_}
-use Prim.Native.Nat.{ℕ, _≤_, _<_, _+_, _/_, _%_, _^_}
-use lib.Dec.{T, leb, ltb, leb→le, ltb→lt}
+use mathlib.Core.Path.{_≡_, refl, sym, ap, _∙_}
+use mathlib.Core.Bool.{Bool, true, false, cond}
+use Prim.Native.Nat.{ℕ, _+_, _/_, _%_, _^_}
+use lib.Dec.{T}
 use Rattle.std.proofs.shelf.Tests.{eq-eqb}
 use Rattle.std.specs.Options.{Cases as BySome}
 use Rattle.std.specs.declared.option.Option.{Option}
 use Rattle.std.specs.declared.option.Option.the-variants.{Some, None}
-use Rattle.forms.specs.Bytes.{within}
 use Rattle.forms.specs.declared.kind.FormKind.{FormKind}
 use Rattle.books.specs.declared.entry.Entry.{Entry}
 use Rattle.books.specs.declared.ident.Ident.{Ident}
-use Rattle.books.specs.Texts.{IsIdent}
 use Rattle.books.specs.Lawful.{lawful}
-use Rattle.books.specs.Made.{both-left, both-right, checked, entry, entryOf}
+use Rattle.books.specs.Made.{checked, entry, entryOf}
 use Rattle.books.specs.Words.{formOf, ofForm, wordEntry}
 use Rattle.books.proofs.Alike.{same-ident, same-entry}
 
@@ -24,10 +22,6 @@ checked-yes false make t = absurd t
 checked-no : {A : Type 0} (b : Bool) (make : T b → A) → (T b → ⊥) → None ≡ checked b make
 checked-no true make n = absurd (n tt)
 checked-no false make n = refl
-
--- lawful parts have a lawful ident
-pub lawful-ident : (d n : ℕ) (f : FormKind) (s l : ℕ) → T (lawful d n f s l) → IsIdent d n
-lawful-ident d n f s l ok = let i = entry d n f s l ok .ident in (i .least, i .most, i .fits)
 
 -- unlawful parts make no entry
 pub no-entry : (d n : ℕ) (f : FormKind) (s l : ℕ) → (T (lawful d n f s l) → ⊥) → None ≡ entryOf d n f s l

@@ -7,7 +7,6 @@ use Rattle.std.specs.declared.option.Option.the-variants.{Some, None}
 use Rattle.forms.specs.Bytes.{within}
 use Rattle.forms.specs.declared.kind.FormKind.{FormKind}
 use Rattle.books.specs.declared.entry.Entry.{Entry}
-use Rattle.books.specs.declared.ident.Ident.{Ident}
 use Rattle.books.specs.Lawful.{inBounds, lawful}
 
 pub both-left : (a b : Bool) → T (a && b) → T a

@@ -1,5 +1,4 @@
 // A row of a table: what an entry says, lawful or not.
-ghost use mathlib.Core.Path.{_≡_};
 ghost use Rattle.books.specs.Rows.{rowEntry};
 use crate::entry::Entry;
 use crate::ident::Ident;

@@ -1,0 +1,11 @@
+pub mod Regulars
+pub mod Sames
+pub mod Standing
+pub mod Turns
+pub mod Places
+pub mod Steps
+pub mod Moves
+pub mod Puts
+pub mod Tellings
+pub mod Walks
+pub mod Readings

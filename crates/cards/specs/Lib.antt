@@ -1,5 +1,11 @@
+pub mod Answers
+pub mod Cards
 pub mod Codes
 pub mod Faults
+pub mod Looks
 pub mod Outcomes
+pub mod Places
+pub mod Regular
+pub mod Rows
 pub mod Strings
 pub mod Tallies

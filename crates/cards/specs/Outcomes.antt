@@ -43,8 +43,8 @@ puts k es y hs n p [] = Ok (record { new = n; held = hs })
 puts zero es y hs n p (b ∷ s) = Ok (record { new = n; held = hs })
 puts (suc k) es y hs n p (b ∷ s) =
     onFront (front es y p (b ∷ s)) (λ f.
-      onPut (put p hs (heldAs y (f .element))) (λ q.
-        puts k es y (q .held) (n + q .new) (p + f .taken) (drop (f .taken) (b ∷ s))))
+    onPut (put p hs (heldAs y (f .element))) (λ q.
+    puts k es y (q .held) (n + q .new) (p + f .taken) (drop (f .taken) (b ∷ s))))
 
 -- how many idents came to be held that were not, and what is held then
 abbrev pub scanOutcome : List Entry → Tally → List ℕ → Result Put ScanFault

@@ -1,5 +1,5 @@
 -- The laws of dates and stamps.
-use mathlib.Core.Path.{_≡_, refl, ap, sym, _∙_}
+use mathlib.Core.Path.{_≡_, refl, ap, sym, subst, _∙_}
 use mathlib.Core.Bool.{Bool, true, cond, _&&_, _||_}
 use mathlib.Core.List.{List, [], _∷_, _++_}
 use Prim.Native.Nat.{ℕ, _+_, _-_, _*_, _/_, _%_, _≤_, _<_}
@@ -10,6 +10,7 @@ use Rattle.std.proofs.shelf.Lists.{drop-more, drop-all}
 use Rattle.std.proofs.shelf.Tests.{and-from, ne-eqb, cond-both, cond-false}
 use Rattle.std.proofs.shelf.Ways.{tells}
 use Rattle.forms.specs.declared.value.Date.{Date}
+use Rattle.forms.specs.declared.value.Stamp.{Stamp}
 use Rattle.forms.specs.Years.{InSpan}
 use Rattle.forms.specs.Laws.{Rewrites}
 use Rattle.forms.specs.Bytes.{digit, every, pair, two}
@@ -18,11 +19,11 @@ use Rattle.forms.specs.Dates.{full-year, leap, days-in, day-meant, date-lawful
 use Rattle.forms.proofs.Figures.{digit-in, digit-of}
 use Rattle.forms.proofs.Writings.{every-allowed}
 
-pair-small : (f : List ℕ) (i : ℕ) → i + 1 < length f → every digit f ≡ true → pair f i < 100
+pub pair-small : (f : List ℕ) (i : ℕ) → i + 1 < length f → every digit f ≡ true → pair f i < 100
 pair-small f i l h = omega (arith, digit-in f i (omega arith) h, digit-in f (i + 1) l h)
 
 -- the last two digits of the year are those that were read
-full-two : (y yy : ℕ) → InSpan y → yy < 100 → full-year y yy % 100 ≡ yy
+pub full-two : (y yy : ℕ) → InSpan y → yy < 100 → full-year y yy % 100 ≡ yy
 full-two y yy h s = grind (arith, tells)
 
 days-some : (y m : ℕ) → (28 ≤ days-in y m) × (days-in y m ≤ 31)
@@ -104,3 +105,23 @@ stamp-as-read y f h p =
     let t2 : two (pair f 2) ++ (two (pair f 4) ++ (two (pair f 6) ++ two (pair f 8))) ≡ drop 2 f = ap (λ r. two (pair f 2) ++ r) t4 ∙ twos-back f 2 (omega arith) a in
     ap (λ n. two n ++ (two (pair f 2) ++ (two (pair f 4) ++ (two (pair f 6) ++ two (pair f 8))))) e0
     ∙ ap (λ r. two (pair f 0) ++ r) t2 ∙ twos-back f 0 (omega arith) a
+
+-- only one year with those last two digits lies from 49 before to 50 after
+pub full-only : (y z : ℕ) → InSpan y → y ≤ z + 49 → z ≤ y + 50 → full-year y (z % 100) ≡ z
+full-only y z h p q = grind (arith, tells)
+
+-- in a year that gives the two digits the same century, a date or stamp is as lawful, and means the same
+pub date-kept : (y t : ℕ) (f : List ℕ) → full-year t (pair f 0) ≡ full-year y (pair f 0) → date-lawful y f → date-lawful t f × (date-worth t f ≡ date-worth y f)
+date-kept y t f e l =
+    let g : ℕ → Date = λ n. record { year = n; month = pair f 2; day = day-meant n (pair f 2) (pair f 4) } in
+    (record { long = l .long; all = l .all; month-low = l .month-low; month-high = l .month-high; day = subst (λ n. pair f 4 ≤ days-in n (pair f 2)) (sym e) (l .day) }, ap g e)
+
+pub stamp-kept : (y t : ℕ) (f : List ℕ) → full-year t (pair f 0) ≡ full-year y (pair f 0) → stamp-lawful y f → stamp-lawful t f × (stamp-worth t f ≡ stamp-worth y f)
+stamp-kept y t f e l =
+    let g : ℕ → Stamp = λ n. record { date = record { year = n; month = pair f 2; day = pair f 4 }; hour = pair f 6; minute = pair f 8 } in
+    (record { long = l .long; all = l .all; month-low = l .month-low; month-high = l .month-high; day-low = l .day-low; day-high = subst (λ n. pair f 4 ≤ days-in n (pair f 2)) (sym e) (l .day-high); hour = l .hour; minute = l .minute }, ap g e)
+
+-- the two digits that a lawful field begins with get the same century in every year in whose span its year lies
+pub century-kept : (y t : ℕ) (f : List ℕ) → InSpan y → InSpan t → 1 < length f → every digit f ≡ true → t ≤ full-year y (pair f 0) + 49 → full-year y (pair f 0) ≤ t + 50 → full-year t (pair f 0) ≡ full-year y (pair f 0)
+century-kept y t f h k l a p q =
+    ap (full-year t) (sym (full-two y (pair f 0) h (pair-small f 0 l a))) ∙ full-only t (full-year y (pair f 0)) k p q

@@ -41,24 +41,24 @@ kind-judged Date y p f =
     record {
       clean = λ l. next-none _ _ _ (admitted-from digit 6 6 p f (omega (arith, l .long)) (omega (arith, l .long)) (l .all)) (and-from _ _ (and-from _ _ (le-leb 1 _ (l .month-low)) (le-leb _ 12 (l .month-high))) (le-leb _ _ (l .day)));
       stands = λ e.
-        let q = none-next _ _ _ e in
-        let a = admitted-parts digit 6 6 p f (q .0) in
-        let d = and-parts _ _ (q .1) in
-        let m = and-parts _ _ (d .0) in
-        record { long = omega (arith, a .least, a .most); all = a .all; month-low = leb-true 1 _ (m .0); month-high = leb-true _ 12 (m .1); day = leb-true _ _ (d .1) };
+          let q = none-next _ _ _ e in
+          let a = admitted-parts digit 6 6 p f (q .0) in
+          let d = and-parts _ _ (q .1) in
+          let m = and-parts _ _ (d .0) in
+          record { long = omega (arith, a .least, a .most); all = a .all; month-low = leb-true 1 _ (m .0); month-high = leb-true _ 12 (m .1); day = leb-true _ _ (d .1) };
     }
 kind-judged Stamp y p f =
     record {
       clean = λ l. next-none _ _ _ (admitted-from digit 10 10 p f (omega (arith, l .long)) (omega (arith, l .long)) (l .all)) (and-from _ _ (and-from _ _ (and-from _ _ (le-leb 1 _ (l .month-low)) (le-leb _ 12 (l .month-high))) (le-leb _ _ (l .day-high))) (and-from _ _ (le-leb 1 _ (l .day-low)) (and-from _ _ (le-leb _ 23 (l .hour)) (le-leb _ 59 (l .minute)))));
       stands = λ e.
-        let q = none-next _ _ _ e in
-        let a = admitted-parts digit 10 10 p f (q .0) in
-        let d = and-parts _ _ (q .1) in
-        let t = and-parts _ _ (d .0) in
-        let m = and-parts _ _ (t .0) in
-        let r = and-parts _ _ (d .1) in
-        let s = and-parts _ _ (r .1) in
-        record { long = omega (arith, a .least, a .most); all = a .all; month-low = leb-true 1 _ (m .0); month-high = leb-true _ 12 (m .1); day-low = leb-true 1 _ (r .0); day-high = leb-true _ _ (t .1); hour = leb-true _ 23 (s .0); minute = leb-true _ 59 (s .1) };
+          let q = none-next _ _ _ e in
+          let a = admitted-parts digit 10 10 p f (q .0) in
+          let d = and-parts _ _ (q .1) in
+          let t = and-parts _ _ (d .0) in
+          let m = and-parts _ _ (t .0) in
+          let r = and-parts _ _ (d .1) in
+          let s = and-parts _ _ (r .1) in
+          record { long = omega (arith, a .least, a .most); all = a .all; month-low = leb-true 1 _ (m .0); month-high = leb-true _ 12 (m .1); day-low = leb-true 1 _ (r .0); day-high = leb-true _ _ (t .1); hour = leb-true _ 23 (s .0); minute = leb-true _ 59 (s .1) };
     }
 kind-judged Measure y p f =
     record {

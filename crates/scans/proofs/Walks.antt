@@ -55,11 +55,11 @@ module _ (es : List Entry) (y : ℕ) where
           turns = turn-left h .0;
           enough = omega (arith, is, m);
           gives =
-            ap (λ r. counted (n + 1) (elements (turn-left h .0) es y (at + t) r)) (sym (drop-drop t at scan))
-            ∙ sym (counted-before n x (elements (turn-left h .0) es y (at + t) (drop t (drop at scan))))
-            ∙ ap (counted n) (sym (elements-more (turn-left h .0) at (drop at scan) x t (some-left h) e))
-            ∙ ap (λ i. counted n (elements i es y at (drop at scan))) (sym is)
-            ∙ l .gives;
+              ap (λ r. counted (n + 1) (elements (turn-left h .0) es y (at + t) r)) (sym (drop-drop t at scan))
+              ∙ sym (counted-before n x (elements (turn-left h .0) es y (at + t) (drop t (drop at scan))))
+              ∙ ap (counted n) (sym (elements-more (turn-left h .0) at (drop at scan) x t (some-left h) e))
+              ∙ ap (λ i. counted n (elements i es y at (drop at scan))) (sym is)
+              ∙ l .gives;
         }
 
     pub left-fault : (f : ScanFault) → at < length scan → front es y at (drop at scan) ≡ Err f → Err f ≡ whole

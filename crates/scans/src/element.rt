@@ -48,11 +48,7 @@ fn field_length(entry: &Entry, n: usize) -> Option<usize>
     let shortest = usize::from(entry.shortest);
     let longest = usize::from(entry.longest);
     if entry.ident.predefined() {
-        if longest <= n {
-            Some(longest)
-        } else {
-            None
-        }
+        if longest <= n { Some(longest) } else { None }
     } else if shortest <= n && n <= longest {
         Some(n)
     } else {

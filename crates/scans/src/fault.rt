@@ -62,7 +62,8 @@ pub impl Fault for ScanFault as ScanFaultTells {
     fn layer(&self) -> Layer {
         match self {
             ScanFault::Field(fault) => fault.layer(),
-            ScanFault::Clash { .. } | ScanFault::Differs { .. } | ScanFault::Full { .. } => Layer::Card,
+            ScanFault::Clash { .. } | ScanFault::Differs { .. } | ScanFault::Full { .. } =>
+                Layer::Card,
             _ => Layer::Scan,
         }
     }

@@ -1,7 +1,7 @@
 -- The rules by which an element is written, one by one.
 use mathlib.Core.Path.{_≡_, refl, ap, sym, _∙_}
-use mathlib.Core.Bool.{Bool, true, false, cond, _&&_}
-use mathlib.Core.List.{List, [], _∷_, _++_}
+use mathlib.Core.Bool.{Bool, true, false, cond}
+use mathlib.Core.List.{List, [], _∷_}
 use Prim.Native.Nat.{ℕ, _+_, _-_, _*_, _<_, _≤_}
 use native.Mathlib.Omega.{arith}
 use lib.Dec.{leb}
@@ -14,7 +14,7 @@ use Rattle.std.proofs.shelf.Ways.{tells}
 use Rattle.forms.specs.Bytes.{digit, allowed}
 use Rattle.symbols.specs.declared.code.CodeSet.{CodeSet}
 use Rattle.symbols.specs.declared.code.CodeSet.the-variants.{B, C}
-use Rattle.symbols.specs.Encoding.{Steps, pairOf, ahead, values, setAfter, clean, fixedLength}
+use Rattle.symbols.specs.Encoding.{Steps, pairOf, ahead, values, clean, fixedLength}
 
 both-true : (x y : Bool) (n : ℕ) → leb 2 (cond x (1 + cond y (1 + n) 0) 0) ≡ true → (x ≡ true) × (y ≡ true)
 both-true true true n e = (refl, refl)

@@ -1,15 +1,13 @@
 -- The tests of a symbol's frame.
 use mathlib.Core.Path.{_≡_, refl, ap, sym, _∙_}
-use mathlib.Core.Bool.{Bool, true, false, cond, not, _||_}
+use mathlib.Core.Bool.{true}
 use mathlib.Core.List.{List, [], _∷_, _++_}
 use Prim.Native.Nat.{ℕ, _+_, _-_, _≤_}
 use native.Mathlib.Omega.{arith}
-use lib.Dec.{leb, eqb}
 use lib.ListN.{length, getD, take, drop}
 use Rattle.std.proofs.shelf.Lists.{length-append, take-at, getD-at, getD-append-right}
 use Rattle.std.proofs.shelf.Tests.{le-ltb, eq-eqb, cond-false, not-from-true}
-use Rattle.std.specs.declared.result.Result.the-variants.{Ok, Err}
-use Rattle.symbols.specs.declared.code.CodeSet.the-variants.{B, C}
+use Rattle.symbols.specs.declared.code.CodeSet.the-variants.{C}
 use Rattle.symbols.specs.Reading.{readOn, starts, startSet, checkOf, decoded}
 
 -- past all of them

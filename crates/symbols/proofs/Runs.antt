@@ -2,25 +2,22 @@
 use mathlib.Core.Path.{_≡_, refl, ap, sym, subst, _∙_}
 use mathlib.Core.Bool.{Bool, true, false, cond}
 use mathlib.Core.List.{List, [], _∷_, _++_}
-use Prim.Native.Nat.{ℕ, _+_, _-_, _*_, _%_, _<_, _≤_}
+use Prim.Native.Nat.{ℕ, _+_, _%_, _≤_}
 use native.Mathlib.Omega.{arith}
 use lib.Dec.{ltb}
-use lib.ListN.{length, take, drop}
+use lib.ListN.{length, take}
 use Rattle.std.specs.shelf.Lists.{leading}
 use Rattle.std.specs.declared.result.Result.{Result}
 use Rattle.std.specs.declared.result.Result.the-variants.{Ok, Err}
 use Rattle.std.proofs.shelf.Lists.{append-nil, append-assoc, length-append}
-use Rattle.std.proofs.shelf.Tests.{cond-both, cond-true, cond-false, lt-ltb, le-ltb, ltb-false}
+use Rattle.std.proofs.shelf.Tests.{cond-both, ltb-false}
 use Rattle.forms.specs.Bytes.{allowed}
-use Rattle.symbols.specs.declared.code.CodeSet.{CodeSet}
-use Rattle.symbols.specs.declared.code.CodeSet.the-variants.{B, C}
 use Rattle.symbols.specs.declared.state.Open.{Open}
 use Rattle.symbols.specs.declared.fault.AddFault.{AddFault}
-use Rattle.symbols.specs.declared.fault.AddFault.the-variants.{Full}
 use Rattle.symbols.specs.Reading.{weighted, readOn, checkOf, decoded}
-use Rattle.symbols.specs.Encoding.{values, setAfter, separated, misfits, fixedLength, clean, joinedAfter, joined}
-use Rattle.symbols.specs.Writing.{Stage, stage, Over, opening, fresh, written, grown, next, taken, within-room, adding, closing, sealing, takenAll, writtenAll, Stands}
-use Rattle.symbols.specs.Laws.{Counted, Counts-right, Reads-back}
+use Rattle.symbols.specs.Encoding.{separated, misfits, fixedLength, clean, joinedAfter, joined}
+use Rattle.symbols.specs.Writing.{Stage, stage, Over, opening, fresh, written, grown, next, taken, closing, takenAll, writtenAll, Stands}
+use Rattle.symbols.specs.Laws.{Counts-right, Reads-back}
 use Rattle.symbols.proofs.Checks.{check-append}
 use Rattle.symbols.proofs.Aheads.{all-text, clean-passes}
 use Rattle.symbols.proofs.Rounds.{reads-on}

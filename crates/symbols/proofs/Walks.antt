@@ -1,15 +1,13 @@
 -- One turn of the reader's loop.
-use mathlib.Core.Path.{_≡_, refl, ap, sym, _∙_}
-use mathlib.Core.Bool.{Bool, true, false, cond}
+use mathlib.Core.Path.{_≡_, ap, sym, _∙_}
 use mathlib.Core.List.{List, [], _∷_, _++_}
-use Prim.Native.Nat.{ℕ, _+_, _-_, _*_, _/_, _%_, _<_, _≤_}
+use Prim.Native.Nat.{ℕ, _+_, _<_, _≤_}
 use native.Mathlib.Omega.{arith}
 use lib.ListN.{length, getD, set, take, drop}
 use Rattle.std.specs.declared.result.Result.{Result}
 use Rattle.std.specs.declared.result.Result.the-variants.{Ok, Err}
 use Rattle.std.proofs.shelf.Lists.{at-drop-more, at-drop-all, append-nil, append-assoc, take-more-set, length-set}
 use Rattle.symbols.specs.declared.code.CodeSet.{CodeSet}
-use Rattle.symbols.specs.declared.code.CodeSet.the-variants.{B, C}
 use Rattle.symbols.specs.declared.fault.SymbolFault.{SymbolFault}
 use Rattle.symbols.specs.declared.fault.SymbolFault.the-variants.{NoUse, TooLong}
 use Rattle.symbols.specs.Reading.{means, no-use, meaning, readOn}

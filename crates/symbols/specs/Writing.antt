@@ -1,6 +1,6 @@
 -- What the calls that write a symbol do, and what runs of them come to.
 use mathlib.Core.Path.{_≡_}
-use mathlib.Core.Bool.{Bool, true, false, cond}
+use mathlib.Core.Bool.{Bool, false, cond}
 use mathlib.Core.List.{List, [], _∷_, _++_}
 use Prim.Native.Nat.{ℕ, _+_, _%_, _≤_}
 use lib.Dec.{ltb}
@@ -10,7 +10,7 @@ use Rattle.std.specs.declared.result.Result.the-variants.{Ok, Err}
 use Rattle.std.specs.shelf.Lists.{leading}
 use Rattle.forms.specs.Bytes.{allowed}
 use Rattle.symbols.specs.declared.code.CodeSet.{CodeSet}
-use Rattle.symbols.specs.declared.code.CodeSet.the-variants.{B, C}
+use Rattle.symbols.specs.declared.code.CodeSet.the-variants.{C}
 use Rattle.symbols.specs.declared.state.Open.{Open}
 use Rattle.symbols.specs.declared.fault.WriterFault.{WriterFault}
 use Rattle.symbols.specs.declared.fault.AddFault.{AddFault}

@@ -1,6 +1,5 @@
 // Writes symbols, element by element.
 ghost use mathlib.Core.Path.{_≡_};
-ghost use Prim.Native.Nat.{ℕ};
 ghost use lib.ListN.{length};
 ghost use Rattle.symbols.specs.Encoding.{predefined, fixedLength, misfits, separated, clean};
 ghost use Rattle.symbols.specs.Writing.{Begins, Admits, Adds, Closes, Seals, stage};

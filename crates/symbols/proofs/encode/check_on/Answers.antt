@@ -1,7 +1,7 @@
-use mathlib.Core.Path.{_≡_, sym, _∙_, ap}
-use Prim.Native.Nat.{ℕ, _+_, _*_, _%_}
+use mathlib.Core.Path.{_∙_, ap}
+use Prim.Native.Nat.{_+_, _*_, _%_}
 use native.Mathlib.Omega.{arith}
-use lib.ListN.{getD, take}
+use lib.ListN.{getD}
 use Rattle.std.proofs.shelf.Lists.{take-all}
 use Rattle.symbols.specs.Reading.{weighted}
 use Rattle.symbols.proofs.Checks.{sum-more}
