@@ -6,6 +6,7 @@ use lib.Dec.{leb}
 use lib.ListN.{length}
 use Rattle.forms.specs.Values.{written}
 use Rattle.books.specs.Texts.{predefined}
+use Rattle.symbols.specs.Writing.{Stage, opening, fresh, next, closing, writtenAll}
 use Rattle.cards.specs.Tallies.{Held, Tally, ident}
 
 -- an element as it is written: ident and writing
@@ -42,3 +43,18 @@ fill run (x ∷ xs) =
 abbrev pub runs : List Held → List (List Held)
 runs [] = []
 runs (x ∷ xs) = fill (x ∷ []) xs
+
+-- PRINTING
+
+-- how far a symbol is written once elements have been added one after the other
+abbrev pub reached : Stage → List (List ℕ) → Stage
+reached s [] = s
+reached s (e ∷ es) = reached (next s e) es
+
+-- the symbol of a run: what begin, an add for each element and seal write, one behind the other
+abbrev pub symbolOf : List Held → List ℕ
+symbolOf run = opening ++ (writtenAll fresh (map piece run) ++ closing (reached fresh (map piece run)))
+
+-- the symbols of a card, one for each run
+abbrev pub symbols : Tally → List (List ℕ)
+symbols t = map symbolOf (runs (t .held))

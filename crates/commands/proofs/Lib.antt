@@ -5,3 +5,4 @@ pub mod ShowsBack
 pub mod Finds
 pub mod Said
 pub mod Pieces
+pub mod Tails

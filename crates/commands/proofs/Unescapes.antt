@@ -44,7 +44,7 @@ abbrev pub onto : List ℕ → Option (List ℕ) → Option (List ℕ)
 onto xs None = None
 onto xs (Some ys) = Some (xs ++ ys)
 
-onto-before : (xs : List ℕ) (b : ℕ) (o : Option (List ℕ)) → onto xs (before (Some b) o) ≡ onto (xs ++ b ∷ []) o
+pub onto-before : (xs : List ℕ) (b : ℕ) (o : Option (List ℕ)) → onto xs (before (Some b) o) ≡ onto (xs ++ b ∷ []) o
 onto-before xs b None = refl
 onto-before xs b (Some ys) = ap Some (sym (append-assoc xs (b ∷ []) ys))
 

@@ -5,7 +5,7 @@ use Rattle.std.specs.Of.Vec.{vec-items}
 use Rattle.forms.specs.declared.kind.FormKind.{FormKind}
 use Rattle.commands.specs.declared.complaint.Complaint.{Complaint}
 use Rattle.commands.specs.declared.line.Command.{Command}
-use Rattle.commands.specs.declared.line.Command.the-variants.{Turn, Field}
+use Rattle.commands.specs.declared.line.Command.the-variants as code
 use Rattle.commands.specs.declared.line.Line.{Line}
 use Rattle.commands.specs.declared.line.Line.the-variants as line
 
@@ -13,6 +13,12 @@ use Rattle.commands.specs.declared.line.Line.the-variants as line
 pub data Request : Type 0 where
   turn : ℕ → Request
   field : FormKind → List ℕ → Request
+  read : List ℕ → Request
+  gs1Book : Request
+  hallBook : List ℕ → Request
+  begin : ℕ → Request
+  add : List ℕ → Request
+  seal : Request
 
 -- what a line means
 pub data Meaning : Type 0 where
@@ -22,8 +28,14 @@ pub data Meaning : Type 0 where
 
 -- the request that a command of the code is
 abbrev pub commandRequest : Command → Request
-commandRequest (Turn y) = turn y
-commandRequest (Field k bytes) = field k (vec-items bytes)
+commandRequest (code.Turn y) = turn y
+commandRequest (code.Field k bytes) = field k (vec-items bytes)
+commandRequest (code.Read bytes) = read (vec-items bytes)
+commandRequest code.Gs1Book = gs1Book
+commandRequest (code.HallBook words) = hallBook (vec-items words)
+commandRequest (code.Begin room) = begin room
+commandRequest (code.Add bytes) = add (vec-items bytes)
+commandRequest code.Seal = seal
 
 -- what a line of the code means
 abbrev pub lineMeaning : Line → Meaning

@@ -8,6 +8,8 @@ use Rattle.std.specs.declared.option.Option.the-variants.{Some, None}
 use Rattle.std.specs.shelf.Text.{sameBytes}
 use Rattle.forms.specs.declared.kind.FormKind.{FormKind}
 use Rattle.forms.specs.declared.kind.FormKind.the-variants as form
+use Rattle.commands.specs.declared.name.BookName.{BookName}
+use Rattle.commands.specs.declared.name.BookName.the-variants as book
 use Rattle.commands.specs.declared.name.CommandWord.{CommandWord}
 use Rattle.commands.specs.declared.name.CommandWord.the-variants as word
 
@@ -29,10 +31,23 @@ formName form.Count = codes "count"
 abbrev pub formNamed : List ℕ → Option FormKind
 formNamed bs = firstNamed formName (form.Text ∷ form.Digits ∷ form.Key ∷ form.Date ∷ form.Stamp ∷ form.Measure ∷ form.Count ∷ []) bs
 
+abbrev pub bookName : BookName → List ℕ
+bookName book.Gs1 = codes "gs1"
+bookName book.Hall = codes "hall"
+
+-- the book of that name
+abbrev pub bookNamed : List ℕ → Option BookName
+bookNamed bs = firstNamed bookName (book.Gs1 ∷ book.Hall ∷ []) bs
+
 abbrev pub commandName : CommandWord → List ℕ
 commandName word.Turn = codes "turn"
 commandName word.Field = codes "field"
+commandName word.Read = codes "read"
+commandName word.Book = codes "book"
+commandName word.Begin = codes "begin"
+commandName word.Add = codes "add"
+commandName word.Seal = codes "seal"
 
 -- the command of that name
 abbrev pub commandNamed : List ℕ → Option CommandWord
-commandNamed bs = firstNamed commandName (word.Turn ∷ word.Field ∷ []) bs
+commandNamed bs = firstNamed commandName (word.Turn ∷ word.Field ∷ word.Read ∷ word.Book ∷ word.Begin ∷ word.Add ∷ word.Seal ∷ []) bs

@@ -13,6 +13,8 @@ pub enum Complaint {
     BadEscape,
     // not the numbers that the command takes
     BadNumber,
+    // there is no open symbol to add to or to seal
+    NoOpenSymbol,
 }
 
 impl Complaint {
@@ -24,6 +26,7 @@ impl Complaint {
             Complaint::UnknownCommand => "? unknown command",
             Complaint::BadEscape => "? bad escape",
             Complaint::BadNumber => "? bad number",
+            Complaint::NoOpenSymbol => "? no open symbol",
         }
     }
 }

@@ -1,6 +1,6 @@
 // Words, and what stands behind them.
 ghost use mathlib.Core.Path.{_≡_};
-ghost use Rattle.commands.specs.Words.{solid, word, behind, trimmedLine};
+ghost use Rattle.commands.specs.Words.{solid, word, tail, behind, trimmedLine};
 use forms::bytes::ByteClass;
 use forms::bytes::passed;
 
@@ -15,16 +15,21 @@ impl ByteClass for SolidByte as SolidByteClass {
     }
 }
 
-// What stands before the first space, and what stands behind it; all and nothing where there is no space.
+// What stands before the first space, and the tail that begins with that space; all and nothing where there is none.
 pub fn split_word(bytes: &[u8]) -> (&[u8], &[u8])
     ensures front { λ r. ⌜ now (r .0) ≡ word (now (bytes .entry)) ⌝ }
-    ensures back { λ r. ⌜ now (r .1) ≡ behind (now (bytes .entry)) ⌝ }
+    ensures back { λ r. ⌜ now (r .1) ≡ tail (now (bytes .entry)) ⌝ }
 {
-    let n = passed::<SolidByte>(bytes);
-    if n < bytes.len() {
-        (&bytes[0..n], &bytes[n + 1..])
-    } else {
-        (bytes, &[])
+    bytes.split_at(passed::<SolidByte>(bytes))
+}
+
+// What stands behind the space that a tail begins with.
+pub fn behind(tail: &[u8]) -> &[u8]
+    ensures { λ r. ⌜ now r ≡ behind (now (tail .entry)) ⌝ }
+{
+    match tail {
+        [_, rest @ ..] => rest,
+        [] => tail,
     }
 }
 

@@ -1,4 +1,5 @@
 // The command language: what a line of input means, and how bytes are shown.
+mod arguments;
 pub mod complaint;
 pub mod cut;
 pub mod escape;

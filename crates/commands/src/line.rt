@@ -9,6 +9,18 @@ pub enum Command {
     Turn(u16),
     // judge the bytes as one field of that form
     Field { kind: FormKind, bytes: Vec<u8> },
+    // judge the elements of the bytes, which are a scan
+    Read(Vec<u8>),
+    // use the GS1 book from here on
+    Gs1Book,
+    // use the hall book that the words spell from here on
+    HallBook(Vec<u32>),
+    // begin a symbol over a buffer of that many bytes
+    Begin { room: usize },
+    // add the bytes to the open symbol, as one element
+    Add(Vec<u8>),
+    // seal the open symbol
+    Seal,
 }
 
 // What a line is.

@@ -2,7 +2,7 @@
 ghost use mathlib.Core.Path.{_≡_};
 ghost use mathlib.Core.List.{List};
 ghost use Prim.Native.Nat.{ℕ};
-ghost use Rattle.commands.specs.Names.{firstNamed, formName, commandName};
+ghost use Rattle.commands.specs.Names.{firstNamed, formName, bookName, commandName};
 use forms::kind::FormKind;
 
 // What has a name in a line.
@@ -42,11 +42,35 @@ pub(crate) impl Named for FormKind as FormKindNamed {
     }
 }
 
+// The books that there are.
+#[derive(Clone, Copy, Debug, PartialEq, Eq)]
+pub(crate) enum BookName {
+    Gs1,
+    Hall,
+}
+
+// The names of the books.
+pub(crate) impl Named for BookName as BookNameNamed {
+    ghost named = { bookName };
+
+    fn name(self) -> &'static str {
+        match self {
+            BookName::Gs1 => "gs1",
+            BookName::Hall => "hall",
+        }
+    }
+}
+
 // The words that commands begin with.
 #[derive(Clone, Copy, Debug, PartialEq, Eq)]
 pub(crate) enum CommandWord {
     Turn,
     Field,
+    Read,
+    Book,
+    Begin,
+    Add,
+    Seal,
 }
 
 pub(crate) impl Named for CommandWord as CommandWordNamed {
@@ -56,6 +80,19 @@ pub(crate) impl Named for CommandWord as CommandWordNamed {
         match self {
             CommandWord::Turn => "turn",
             CommandWord::Field => "field",
+            CommandWord::Read => "read",
+            CommandWord::Book => "book",
+            CommandWord::Begin => "begin",
+            CommandWord::Add => "add",
+            CommandWord::Seal => "seal",
         }
     }
+}
+
+// What bytes are given for.
+#[derive(Clone, Copy)]
+pub(crate) enum Purpose {
+    Field(FormKind),
+    Read,
+    Add,
 }

@@ -1,19 +1,28 @@
 // From the bytes of a line to its command.
 ghost use mathlib.Core.Path.{_≡_};
+ghost use Rattle.std.specs.Of.Vec.{vec-items};
 ghost use Rattle.std.specs.Vec.{made};
-ghost use Rattle.commands.specs.Lines.{lineMeaning};
-ghost use Rattle.commands.specs.Meanings.{turnMeant, fieldMeant, commandMeant, meant};
+ghost use Rattle.commands.specs.Lines.{commandRequest, lineMeaning};
+ghost use Rattle.commands.specs.Meanings.{alone, asked, turnMeant, beginMeant, bytesMeant, fieldMeant, hallMeant, bookMeant, commandMeant, meant};
 ghost use Rattle.commands.specs.Names.{commandNamed};
+ghost use Rattle.commands.specs.Words.{arguments};
+use crate::arguments::WordWidth;
+use crate::arguments::all_numbers;
+use crate::arguments::number_or;
+use crate::arguments::only_number;
 use crate::complaint::Complaint;
+use crate::cut::behind;
 use crate::cut::split_word;
 use crate::escape::unescape;
 use crate::line::Command;
 use crate::line::Line;
+use crate::name::BookName;
+use crate::name::BookNameNamed;
 use crate::name::CommandWord;
 use crate::name::CommandWordNamed;
 use crate::name::FormKindNamed;
+use crate::name::Purpose;
 use crate::name::find;
-use crate::number::number;
 use forms::kind::FormKind;
 use std::alloc::AllocError;
 use std::alloc::Global;
@@ -28,39 +37,115 @@ const FORMS: [FormKind; 7] = [
     FormKind::Count,
 ];
 
-const COMMANDS: [CommandWord; 2] = [CommandWord::Turn, CommandWord::Field];
+const BOOKS: [BookName; 2] = [BookName::Gs1, BookName::Hall];
 
-// The command `turn` with those arguments: one number, of 16 bits.
-fn turn(args: &[u8]) -> Line
-    ensures { λ r. ⌜ lineMeaning r ≡ turnMeant (now (args .entry)) ⌝ }
+const COMMANDS: [CommandWord; 7] = [
+    CommandWord::Turn,
+    CommandWord::Field,
+    CommandWord::Read,
+    CommandWord::Book,
+    CommandWord::Begin,
+    CommandWord::Add,
+    CommandWord::Seal,
+];
+
+// A command that takes nothing.
+fn alone(command: Command, tail: &[u8]) -> Line
+    ensures { λ r. ⌜ lineMeaning r ≡ alone (commandRequest command) (arguments (now (tail .entry))) ⌝ }
 {
-    match number(args, 65535) {
+    if tail.is_empty() {
+        Line::Command(command)
+    } else {
+        Line::Complaint(Complaint::BadNumber)
+    }
+}
+
+// The command `turn`: one number, of 16 bits.
+fn turn(tail: &[u8]) -> Line
+    ensures { λ r. ⌜ lineMeaning r ≡ turnMeant (now (tail .entry)) ⌝ }
+{
+    match only_number(tail, 65535) {
         Some(year) => Line::Command(Command::Turn(year as u16)),
         None => Line::Complaint(Complaint::BadNumber),
     }
 }
 
-// The command `field` with those arguments: the name of a form, and bytes.
-fn field(heap: Global, args: &[u8]) -> Result<Line, AllocError>
-    ensures { λ r. ⌜ made r (λ line. lineMeaning line ≡ fieldMeant (now (args .entry))) ⌝ }
+// The command `begin`: the bytes of its buffer, 4096 at most, and 4096 where no number is given.
+fn begin(tail: &[u8]) -> Line
+    ensures { λ r. ⌜ lineMeaning r ≡ beginMeant (now (tail .entry)) ⌝ }
 {
-    let (name, writing) = split_word(args);
-    let Some(kind) = find(&FORMS, name) else {
-        return Ok(Line::Complaint(Complaint::UnknownCommand));
-    };
+    match number_or(tail, 4096, 4096) {
+        Some(room) => Line::Command(Command::Begin { room: room as usize }),
+        None => Line::Complaint(Complaint::BadNumber),
+    }
+}
+
+// What is asked of bytes that are given for that.
+fn ask(purpose: Purpose, bytes: Vec<u8>) -> Command
+    ensures { λ r. ⌜ commandRequest r ≡ asked purpose (vec-items bytes) ⌝ }
+{
+    match purpose {
+        Purpose::Field(kind) => Command::Field { kind, bytes },
+        Purpose::Read => Command::Read(bytes),
+        Purpose::Add => Command::Add(bytes),
+    }
+}
+
+// A command that takes bytes, with that writing of them.
+fn with_bytes(heap: Global, purpose: Purpose, writing: &[u8]) -> Result<Line, AllocError>
+    ensures { λ r. ⌜ made r (λ line. lineMeaning line ≡ bytesMeant purpose (now (writing .entry))) ⌝ }
+{
     match unescape(heap, writing)? {
-        Ok(bytes) => Ok(Line::Command(Command::Field { kind, bytes })),
+        Ok(bytes) => Ok(Line::Command(ask(purpose, bytes))),
         Err(complaint) => Ok(Line::Complaint(complaint)),
     }
 }
 
-// The command of that word with those arguments.
-fn command_of(heap: Global, word: &[u8], args: &[u8]) -> Result<Line, AllocError>
-    ensures { λ r. ⌜ made r (λ line. lineMeaning line ≡ commandMeant (commandNamed (now (word .entry))) (now (args .entry))) ⌝ }
+// The command `field`: the name of a form, and bytes.
+fn field(heap: Global, tail: &[u8]) -> Result<Line, AllocError>
+    ensures { λ r. ⌜ made r (λ line. lineMeaning line ≡ fieldMeant (now (tail .entry))) ⌝ }
+{
+    let (name, args) = split_word(behind(tail));
+    match find(&FORMS, name) {
+        Some(kind) => with_bytes(heap, Purpose::Field(kind), behind(args)),
+        None => Ok(Line::Complaint(Complaint::UnknownCommand)),
+    }
+}
+
+// The words of a hall's book, each of 32 bits.
+fn hall(heap: Global, tail: &[u8]) -> Result<Line, AllocError>
+    ensures { λ r. ⌜ made r (λ line. lineMeaning line ≡ hallMeant (now (tail .entry))) ⌝ }
+{
+    match all_numbers(heap, tail)? {
+        Some(words) => Ok(Line::Command(Command::HallBook(words))),
+        None => Ok(Line::Complaint(Complaint::BadNumber)),
+    }
+}
+
+// The command `book`: the name of a book, and what belongs to it.
+fn book(heap: Global, tail: &[u8]) -> Result<Line, AllocError>
+    ensures { λ r. ⌜ made r (λ line. lineMeaning line ≡ bookMeant (now (tail .entry))) ⌝ }
+{
+    let (name, args) = split_word(behind(tail));
+    match find(&BOOKS, name) {
+        Some(BookName::Gs1) => Ok(alone(Command::Gs1Book, args)),
+        Some(BookName::Hall) => hall(heap, args),
+        None => Ok(Line::Complaint(Complaint::UnknownCommand)),
+    }
+}
+
+// The command of that word with that tail.
+fn command_of(heap: Global, word: &[u8], tail: &[u8]) -> Result<Line, AllocError>
+    ensures { λ r. ⌜ made r (λ line. lineMeaning line ≡ commandMeant (commandNamed (now (word .entry))) (now (tail .entry))) ⌝ }
 {
     match find(&COMMANDS, word) {
-        Some(CommandWord::Turn) => Ok(turn(args)),
-        Some(CommandWord::Field) => field(heap, args),
+        Some(CommandWord::Turn) => Ok(turn(tail)),
+        Some(CommandWord::Field) => field(heap, tail),
+        Some(CommandWord::Read) => with_bytes(heap, Purpose::Read, behind(tail)),
+        Some(CommandWord::Book) => book(heap, tail),
+        Some(CommandWord::Begin) => Ok(begin(tail)),
+        Some(CommandWord::Add) => with_bytes(heap, Purpose::Add, behind(tail)),
+        Some(CommandWord::Seal) => Ok(alone(Command::Seal, tail)),
         None => Ok(Line::Complaint(Complaint::UnknownCommand)),
     }
 }
@@ -73,6 +158,6 @@ pub fn parse(heap: Global, line: &[u8]) -> Result<Line, AllocError>
     if let [] | [b'#', ..] = line {
         return Ok(Line::Silent);
     }
-    let (word, args) = split_word(line);
-    command_of(heap, word, args)
+    let (word, tail) = split_word(line);
+    command_of(heap, word, tail)
 }

@@ -4,6 +4,7 @@ use forms::fault::Fault;
 use forms::fault::Layer;
 use forms::value::Date;
 use forms::value::Value;
+use scans::element::Element;
 use std::io;
 use std::io::Write;
 
@@ -63,4 +64,25 @@ pub fn write_value(writing: &[u8], value: &Value, out: &mut Vec<u8>) -> io::Resu
         Value::Fraction(n) => write!(out, " fraction {n}"),
         Value::Whole(n) => write!(out, " whole {n}"),
     }
+}
+
+// Adds the line of an element whose value's writing stands in `writing`.
+pub fn write_element(element: &Element, writing: &[u8; 30], out: &mut Vec<u8>) -> io::Result<()> {
+    let mut ident = [0; 4];
+    let digits = element.entry.ident.write(&mut ident).min(4);
+    let len = element.reading.len.min(30);
+    write!(out, " ")?;
+    show(&ident[0..digits], out)?;
+    write!(out, " ")?;
+    write_value(&writing[0..len], &element.reading.value, out)?;
+    writeln!(out)
+}
+
+// Adds the values of a symbol.
+pub fn write_values(values: &[u8], out: &mut Vec<u8>) -> io::Result<()> {
+    write!(out, "ok")?;
+    for value in values {
+        write!(out, " {value}")?;
+    }
+    writeln!(out)
 }

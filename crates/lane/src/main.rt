@@ -7,6 +7,8 @@ use std::io::BufReader;
 use std::io::Write;
 
 mod answer;
+mod book;
+mod label;
 mod session;
 mod turn;
 

@@ -45,11 +45,11 @@ pub took : (s t : Stage) (e : List ℕ) → taken s e ≡ Ok t → Took s e t
 took s t e h = subst (Tells s e) h (tells-taken s e)
 
 -- the first add of a run
-abbrev goesOn : List (List ℕ) → Result Stage AddFault → Result Stage AddFault
+abbrev pub goesOn : List (List ℕ) → Result Stage AddFault → Result Stage AddFault
 goesOn es (Ok t) = takenAll t es
 goesOn es (Err f) = Err f
 
-run-by : (s : Stage) (e : List ℕ) (es : List (List ℕ)) → takenAll s (e ∷ es) ≡ goesOn es (taken s e)
+pub run-by : (s : Stage) (e : List ℕ) (es : List (List ℕ)) → takenAll s (e ∷ es) ≡ goesOn es (taken s e)
 run-by s e es =
     let P : Result Stage AddFault → Type 0 = λ r. elim r as (λ _. Result Stage AddFault) [ Ok t ↦ takenAll t es | Err f ↦ Err f ] ≡ goesOn es r in
     elim (taken s e) as P [ Ok t ↦ refl | Err f ↦ refl ]
@@ -97,7 +97,7 @@ counts-run s t (e ∷ es) xs h c =
 counts-opened : (t : Stage) (es : List (List ℕ)) → takenAll fresh es ≡ Ok t → Counts t (opening ++ writtenAll fresh es)
 counts-opened t es h = counts-run fresh t es opening h (record { sum = refl; len = refl; some = omega arith })
 
-sep-long : (p : Bool) (e : List ℕ) → length (cond p (29 ∷ []) [] ++ e) ≡ cond p 1 0 + length e
+pub sep-long : (p : Bool) (e : List ℕ) → length (cond p (29 ∷ []) [] ++ e) ≡ cond p 1 0 + length e
 sep-long true e = omega arith
 sep-long false e = omega arith
 

@@ -10,3 +10,6 @@ returns-in-BadEscape c = sym (ap complaintText (c .in-BadEscape .is))
 
 pub returns-in-BadNumber : need.returns-in-BadNumber
 returns-in-BadNumber c = sym (ap complaintText (c .in-BadNumber .is))
+
+pub returns-in-NoOpenSymbol : need.returns-in-NoOpenSymbol
+returns-in-NoOpenSymbol c = sym (ap complaintText (c .in-NoOpenSymbol .is))
