@@ -14,6 +14,11 @@ pub data Request : Type 0 where
   turn : ℕ → Request
   field : FormKind → List ℕ → Request
   read : List ℕ → Request
+  scan : List ℕ → Request
+  take : List ℕ → Request
+  strike : List ℕ → Request
+  wipe : Request
+  look : List ℕ → Request
   gs1Book : Request
   hallBook : List ℕ → Request
   begin : ℕ → Request
@@ -31,6 +36,11 @@ abbrev pub commandRequest : Command → Request
 commandRequest (code.Turn y) = turn y
 commandRequest (code.Field k bytes) = field k (vec-items bytes)
 commandRequest (code.Read bytes) = read (vec-items bytes)
+commandRequest (code.Scan bytes) = scan (vec-items bytes)
+commandRequest (code.Take values) = take (vec-items values)
+commandRequest (code.Strike bytes) = strike (vec-items bytes)
+commandRequest code.Wipe = wipe
+commandRequest (code.Look bytes) = look (vec-items bytes)
 commandRequest code.Gs1Book = gs1Book
 commandRequest (code.HallBook words) = hallBook (vec-items words)
 commandRequest (code.Begin room) = begin room

@@ -10,11 +10,11 @@ use Rattle.commands.specs.declared.complaint.Complaint.the-variants.{UnknownCo
 use Rattle.commands.specs.declared.name.BookName.{BookName}
 use Rattle.commands.specs.declared.name.BookName.the-variants.{Gs1, Hall}
 use Rattle.commands.specs.declared.name.CommandWord.{CommandWord}
-use Rattle.commands.specs.declared.name.CommandWord.the-variants.{Turn, Field, Read, Book, Begin, Add, Seal}
+use Rattle.commands.specs.declared.name.CommandWord.the-variants.{Turn, Field, Read, Scan, Take, Strike, Wipe, Look, Book, Begin, Add, Seal}
 use Rattle.commands.specs.declared.name.Purpose.{Purpose}
 use Rattle.commands.specs.declared.name.Purpose.the-variants as for
 use Rattle.commands.specs.Escapes.{unescaped}
-use Rattle.commands.specs.Lines.{Request, Meaning, silent, request, refusal, turn, field, read, gs1Book, hallBook, begin, add, seal}
+use Rattle.commands.specs.Lines.{Request, Meaning, silent, request, refusal, turn, field, read, scan, take, strike, wipe, look, gs1Book, hallBook, begin, add, seal}
 use Rattle.commands.specs.Names.{formNamed, bookNamed, commandNamed}
 use Rattle.commands.specs.Numerals.{onlyNumber, numberOr, allNumbers}
 use Rattle.commands.specs.Words.{word, tail, behind, arguments}
@@ -46,6 +46,9 @@ beginMeant args = numbered begin (numberOr 4096 4096 (arguments args))
 abbrev pub asked : Purpose → List ℕ → Request
 asked (for.Field kind) bytes = field kind bytes
 asked for.Read bytes = read bytes
+asked for.Scan bytes = scan bytes
+asked for.Strike bytes = strike bytes
+asked for.Look bytes = look bytes
 asked for.Add bytes = add bytes
 
 -- a command that takes bytes
@@ -70,6 +73,10 @@ fieldMeant args = fieldOf (formNamed (word (behind args))) (tail (behind args))
 abbrev pub hallMeant : List ℕ → Meaning
 hallMeant args = listed hallBook (allNumbers 4294967295 (arguments args))
 
+-- what `take` means with that tail: values, each of 8 bits
+abbrev pub takeMeant : List ℕ → Meaning
+takeMeant args = listed take (allNumbers 255 (arguments args))
+
 -- the book of that name, with that tail
 abbrev pub bookOf : Option BookName → List ℕ → Meaning
 bookOf None args = refusal UnknownCommand
@@ -86,6 +93,11 @@ commandMeant None args = refusal UnknownCommand
 commandMeant (Some Turn) args = turnMeant args
 commandMeant (Some Field) args = fieldMeant args
 commandMeant (Some Read) args = bytesMeant for.Read (behind args)
+commandMeant (Some Scan) args = bytesMeant for.Scan (behind args)
+commandMeant (Some Take) args = takeMeant args
+commandMeant (Some Strike) args = bytesMeant for.Strike (behind args)
+commandMeant (Some Wipe) args = alone wipe (arguments args)
+commandMeant (Some Look) args = bytesMeant for.Look (behind args)
 commandMeant (Some Book) args = bookMeant args
 commandMeant (Some Begin) args = beginMeant args
 commandMeant (Some Add) args = bytesMeant for.Add (behind args)

@@ -43,6 +43,11 @@ abbrev pub commandName : CommandWord → List ℕ
 commandName word.Turn = codes "turn"
 commandName word.Field = codes "field"
 commandName word.Read = codes "read"
+commandName word.Scan = codes "scan"
+commandName word.Take = codes "take"
+commandName word.Strike = codes "strike"
+commandName word.Wipe = codes "wipe"
+commandName word.Look = codes "look"
 commandName word.Book = codes "book"
 commandName word.Begin = codes "begin"
 commandName word.Add = codes "add"
@@ -50,4 +55,4 @@ commandName word.Seal = codes "seal"
 
 -- the command of that name
 abbrev pub commandNamed : List ℕ → Option CommandWord
-commandNamed bs = firstNamed commandName (word.Turn ∷ word.Field ∷ word.Read ∷ word.Book ∷ word.Begin ∷ word.Add ∷ word.Seal ∷ []) bs
+commandNamed bs = firstNamed commandName (word.Turn ∷ word.Field ∷ word.Read ∷ word.Scan ∷ word.Take ∷ word.Strike ∷ word.Wipe ∷ word.Look ∷ word.Book ∷ word.Begin ∷ word.Add ∷ word.Seal ∷ []) bs

@@ -56,6 +56,20 @@ pub(crate) impl Width for u32 as WordWidth {
     }
 }
 
+// Numbers of 8 bits.
+pub(crate) impl Width for u8 as ByteWidth {
+    ghost worth = { λ n. n };
+
+    ghost largest = { 255 };
+
+    fn read(piece: &[u8]) -> Option<u8> {
+        match number(piece, 255) {
+            Some(n) => Some(n as u8),
+            None => None,
+        }
+    }
+}
+
 // The numbers of any count of arguments, if each has the width.
 pub(crate) fn all_numbers<T: Width>(heap: Global, tail: &[u8]) -> Result<Option<Vec<T>>, AllocError>
     ensures { λ r. ⌜ made r (λ o. mapped (λ v. map (T·Width .worth) (vec-items v)) o ≡ allNumbers (T·Width .largest) (arguments (now (tail .entry)))) ⌝ }

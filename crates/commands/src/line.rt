@@ -11,6 +11,16 @@ pub enum Command {
     Field { kind: FormKind, bytes: Vec<u8> },
     // judge the elements of the bytes, which are a scan
     Read(Vec<u8>),
+    // put the elements of the bytes, which are a scan, on the card
+    Scan(Vec<u8>),
+    // put the elements of a symbol with those values on the card
+    Take(Vec<u8>),
+    // strike the ident of those bytes
+    Strike(Vec<u8>),
+    // empty the card
+    Wipe,
+    // look up the ident of those bytes
+    Look(Vec<u8>),
     // use the GS1 book from here on
     Gs1Book,
     // use the hall book that the words spell from here on

@@ -3,9 +3,10 @@ ghost use mathlib.Core.Path.{_≡_};
 ghost use Rattle.std.specs.Of.Vec.{vec-items};
 ghost use Rattle.std.specs.Vec.{made};
 ghost use Rattle.commands.specs.Lines.{commandRequest, lineMeaning};
-ghost use Rattle.commands.specs.Meanings.{alone, asked, turnMeant, beginMeant, bytesMeant, fieldMeant, hallMeant, bookMeant, commandMeant, meant};
+ghost use Rattle.commands.specs.Meanings.{alone, asked, turnMeant, beginMeant, bytesMeant, fieldMeant, hallMeant, takeMeant, bookMeant, commandMeant, meant};
 ghost use Rattle.commands.specs.Names.{commandNamed};
 ghost use Rattle.commands.specs.Words.{arguments};
+use crate::arguments::ByteWidth;
 use crate::arguments::WordWidth;
 use crate::arguments::all_numbers;
 use crate::arguments::number_or;
@@ -39,10 +40,15 @@ const FORMS: [FormKind; 7] = [
 
 const BOOKS: [BookName; 2] = [BookName::Gs1, BookName::Hall];
 
-const COMMANDS: [CommandWord; 7] = [
+const COMMANDS: [CommandWord; 12] = [
     CommandWord::Turn,
     CommandWord::Field,
     CommandWord::Read,
+    CommandWord::Scan,
+    CommandWord::Take,
+    CommandWord::Strike,
+    CommandWord::Wipe,
+    CommandWord::Look,
     CommandWord::Book,
     CommandWord::Begin,
     CommandWord::Add,
@@ -75,7 +81,9 @@ fn begin(tail: &[u8]) -> Line
     ensures { λ r. ⌜ lineMeaning r ≡ beginMeant (now (tail .entry)) ⌝ }
 {
     match number_or(tail, 4096, 4096) {
-        Some(room) => Line::Command(Command::Begin { room: room as usize }),
+        Some(room) => Line::Command(Command::Begin {
+            room: room as usize,
+        }),
         None => Line::Complaint(Complaint::BadNumber),
     }
 }
@@ -87,6 +95,9 @@ fn ask(purpose: Purpose, bytes: Vec<u8>) -> Command
     match purpose {
         Purpose::Field(kind) => Command::Field { kind, bytes },
         Purpose::Read => Command::Read(bytes),
+        Purpose::Scan => Command::Scan(bytes),
+        Purpose::Strike => Command::Strike(bytes),
+        Purpose::Look => Command::Look(bytes),
         Purpose::Add => Command::Add(bytes),
     }
 }
@@ -122,6 +133,16 @@ fn hall(heap: Global, tail: &[u8]) -> Result<Line, AllocError>
     }
 }
 
+// The command `take`: a symbol's values, each of 8 bits.
+fn take(heap: Global, tail: &[u8]) -> Result<Line, AllocError>
+    ensures { λ r. ⌜ made r (λ line. lineMeaning line ≡ takeMeant (now (tail .entry))) ⌝ }
+{
+    match all_numbers(heap, tail)? {
+        Some(values) => Ok(Line::Command(Command::Take(values))),
+        None => Ok(Line::Complaint(Complaint::BadNumber)),
+    }
+}
+
 // The command `book`: the name of a book, and what belongs to it.
 fn book(heap: Global, tail: &[u8]) -> Result<Line, AllocError>
     ensures { λ r. ⌜ made r (λ line. lineMeaning line ≡ bookMeant (now (tail .entry))) ⌝ }
@@ -142,6 +163,11 @@ fn command_of(heap: Global, word: &[u8], tail: &[u8]) -> Result<Line, AllocError
         Some(CommandWord::Turn) => Ok(turn(tail)),
         Some(CommandWord::Field) => field(heap, tail),
         Some(CommandWord::Read) => with_bytes(heap, Purpose::Read, behind(tail)),
+        Some(CommandWord::Scan) => with_bytes(heap, Purpose::Scan, behind(tail)),
+        Some(CommandWord::Take) => take(heap, tail),
+        Some(CommandWord::Strike) => with_bytes(heap, Purpose::Strike, behind(tail)),
+        Some(CommandWord::Wipe) => Ok(alone(Command::Wipe, tail)),
+        Some(CommandWord::Look) => with_bytes(heap, Purpose::Look, behind(tail)),
         Some(CommandWord::Book) => book(heap, tail),
         Some(CommandWord::Begin) => Ok(begin(tail)),
         Some(CommandWord::Add) => with_bytes(heap, Purpose::Add, behind(tail)),

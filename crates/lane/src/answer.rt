@@ -1,10 +1,14 @@
 // What is answered, as text.
+use books::ident::Ident;
 use commands::show::show;
 use forms::fault::Fault;
 use forms::fault::Layer;
+use forms::form::Form;
+use forms::judge::Reading;
+use forms::key::KeyForm;
+use forms::key::KeyIsForm;
 use forms::value::Date;
 use forms::value::Value;
-use scans::element::Element;
 use std::io;
 use std::io::Write;
 
@@ -36,45 +40,56 @@ fn write_date(date: &Date, out: &mut Vec<u8>) -> io::Result<()> {
     write!(out, "{year:04}-{month:02}-{day:02}")
 }
 
-// Adds a writing and the value that it is the writing of.
-pub fn write_value(writing: &[u8], value: &Value, out: &mut Vec<u8>) -> io::Result<()> {
-    show(writing, out)?;
+// Adds a value; where it is a text, its bytes are the first of `beside`.
+pub fn write_value(value: &Value, beside: &[u8; 30], out: &mut Vec<u8>) -> io::Result<()> {
     match value {
-        Value::Text { .. } => {
-            write!(out, " text ")?;
-            show(writing, out)?;
+        Value::Text { len } => {
+            write!(out, "text ")?;
+            show(&beside[0..usize::from(*len).min(30)], out)?;
             Ok(())
         }
-        Value::Key(_) => {
-            write!(out, " key ")?;
-            show(writing, out)?;
+        Value::Key(key) => {
+            let mut digits = [0; 30];
+            let n = KeyForm::write(key, &mut digits).min(30);
+            write!(out, "key ")?;
+            show(&digits[0..n], out)?;
             Ok(())
         }
         Value::Date(date) => {
-            write!(out, " date ")?;
+            write!(out, "date ")?;
             write_date(date, out)
         }
         Value::Stamp(stamp) => {
-            write!(out, " stamp ")?;
+            write!(out, "stamp ")?;
             write_date(&stamp.date, out)?;
             let hour = stamp.hour;
             let minute = stamp.minute;
             write!(out, " {hour:02}:{minute:02}")
         }
-        Value::Fraction(n) => write!(out, " fraction {n}"),
-        Value::Whole(n) => write!(out, " whole {n}"),
+        Value::Fraction(n) => write!(out, "fraction {n}"),
+        Value::Whole(n) => write!(out, "whole {n}"),
     }
 }
 
-// Adds the line of an element whose value's writing stands in `writing`.
-pub fn write_element(element: &Element, writing: &[u8; 30], out: &mut Vec<u8>) -> io::Result<()> {
-    let mut ident = [0; 4];
-    let digits = element.entry.ident.write(&mut ident).min(4);
-    let len = element.reading.len.min(30);
+// Adds what was read: the writing, and the value.
+pub fn write_reading(reading: &Reading, writing: &[u8; 30], out: &mut Vec<u8>) -> io::Result<()> {
+    show(&writing[0..reading.len.min(30)], out)?;
     write!(out, " ")?;
-    show(&ident[0..digits], out)?;
+    write_value(&reading.value, writing, out)
+}
+
+// Adds the line of an element: its ident, the writing of its value, which stands in `writing`, and the value.
+pub fn write_element(
+    ident: &Ident,
+    reading: &Reading,
+    writing: &[u8; 30],
+    out: &mut Vec<u8>,
+) -> io::Result<()> {
+    let mut digits = [0; 4];
+    let n = ident.write(&mut digits).min(4);
+    show(&digits[0..n], out)?;
     write!(out, " ")?;
-    write_value(&writing[0..len], &element.reading.value, out)?;
+    write_reading(reading, writing, out)?;
     writeln!(out)
 }
 

@@ -10,7 +10,6 @@ mod answer;
 mod book;
 mod label;
 mod session;
-mod turn;
 
 // A line without the bytes that end it: byte 10, and a byte 13 just before that.
 fn without_end(line: &[u8]) -> &[u8] {

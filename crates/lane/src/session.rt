@@ -1,18 +1,19 @@
 // What a lane holds between two lines, and what each line does to it.
 use crate::answer::write_element;
+use crate::answer::write_reading;
 use crate::answer::write_refusal;
 use crate::answer::write_value;
 use crate::answer::write_values;
 use crate::book::BookInUse;
 use crate::book::HallWords;
 use crate::label::OpenSymbol;
-use crate::turn::NoSuchYearTells;
-use crate::turn::turn;
 use books::book::Book;
 use books::fault::BookFaultTells;
 use books::gs1::Gs1Book;
 use books::gs1::Gs1IsBook;
 use books::hall::HallIsBook;
+use cards::card::Card;
+use cards::fault::CardFaultTells;
 use commands::complaint::Complaint;
 use commands::complaint::ComplaintDisplay;
 use commands::line::Command;
@@ -30,6 +31,7 @@ use std::alloc::Global;
 use std::io;
 use std::io::Write;
 use symbols::fault::AddFaultTells;
+use symbols::fault::SymbolFaultTells;
 use symbols::fault::WriterFaultTells;
 
 // What became of a command.
@@ -43,10 +45,10 @@ enum Outcome {
     Untried,
 }
 
-// A lane: the year in which it judges, the book that it uses, its open symbol, and how many commands it has answered and refused.
+// A lane: its card, the book that it uses, its open symbol, and how many commands it has answered and refused.
 #[derive(Drop)]
 pub struct Session {
-    year: Year,
+    card: Card,
     book: BookInUse,
     symbol: Option<OpenSymbol>,
     commands: u64,
@@ -56,6 +58,12 @@ pub struct Session {
 // Adds the line `ok`.
 fn accept(out: &mut Vec<u8>) -> io::Result<Outcome> {
     writeln!(out, "ok")?;
+    Ok(Outcome::Done)
+}
+
+// Adds the line `ok` with a number.
+fn tell(n: usize, out: &mut Vec<u8>) -> io::Result<Outcome> {
+    writeln!(out, "ok {n}")?;
     Ok(Outcome::Done)
 }
 
@@ -88,17 +96,18 @@ fn read<B: Book>(book: &B, year: Year, scan: &[u8], out: &mut Vec<u8>) -> io::Re
         let Some(element) = found else {
             break;
         };
-        write_element(&element, &writing, out)?;
+        write!(out, " ")?;
+        write_element(&element.entry.ident, &element.reading, &writing, out)?;
         at = element.next;
     }
     Ok(Outcome::Done)
 }
 
 impl Session {
-    // A lane that has answered nothing yet, in the first year and with the GS1 book.
+    // A lane that has answered nothing yet, with a new card and the GS1 book.
     pub fn new() -> Session {
         Session {
-            year: Year::FIRST,
+            card: Card::make(),
             book: BookInUse::Gs1,
             symbol: None,
             commands: 0,
@@ -133,10 +142,21 @@ impl Session {
     // Adds what is answered to a command.
     fn obey(&mut self, heap: Global, command: Command, out: &mut Vec<u8>) -> io::Result<Outcome> {
         match command {
-            Command::Turn(number) => match turn(&mut self.year, number) {
+            Command::Turn(number) => match self.card.turn(number) {
                 Ok(()) => accept(out),
                 Err(fault) => refuse(&fault, out),
             },
+            Command::Scan(bytes) => self.scan(bytes.as_slice(), out),
+            Command::Take(values) => self.take(values.as_slice(), out),
+            Command::Strike(ident) => match self.card.strike(ident.as_slice()) {
+                Ok(()) => accept(out),
+                Err(fault) => refuse(&fault, out),
+            },
+            Command::Wipe => {
+                self.card.wipe();
+                accept(out)
+            }
+            Command::Look(ident) => self.look(ident.as_slice(), out),
             Command::Field { kind, bytes } => self.field(kind, bytes.as_slice(), out),
             Command::Read(bytes) => self.read(bytes.as_slice(), out),
             Command::Gs1Book => self.use_gs1(out),
@@ -150,11 +170,10 @@ impl Session {
     // Adds what is answered to the bytes of one field.
     fn field(&self, kind: FormKind, bytes: &[u8], out: &mut Vec<u8>) -> io::Result<Outcome> {
         let mut writing = [0; 30];
-        match judge(kind, self.year, bytes, 0, &mut writing) {
+        match judge(kind, self.card.year(), bytes, 0, &mut writing) {
             Ok(reading) => {
                 write!(out, "ok ")?;
-                let n = reading.len.min(30);
-                write_value(&writing[0..n], &reading.value, out)?;
+                write_reading(&reading, &writing, out)?;
                 writeln!(out)?;
                 Ok(Outcome::Done)
             }
@@ -165,17 +184,50 @@ impl Session {
     // Adds what is answered to the bytes of a scan.
     fn read(&self, scan: &[u8], out: &mut Vec<u8>) -> io::Result<Outcome> {
         match &self.book {
-            BookInUse::Gs1 => read(&Gs1Book, self.year, scan, out),
-            BookInUse::Hall(words) => read(&words.book(), self.year, scan, out),
+            BookInUse::Gs1 => read(&Gs1Book, self.card.year(), scan, out),
+            BookInUse::Hall(words) => read(&words.book(), self.card.year(), scan, out),
         }
+    }
+
+    // Puts the elements of a scan on the card, and adds how many idents came to be held.
+    fn scan(&mut self, scan: &[u8], out: &mut Vec<u8>) -> io::Result<Outcome> {
+        let put = match &self.book {
+            BookInUse::Gs1 => self.card.scan(&Gs1Book, scan),
+            BookInUse::Hall(words) => self.card.scan(&words.book(), scan),
+        };
+        match put {
+            Ok(n) => tell(n, out),
+            Err(fault) => refuse(&fault, out),
+        }
+    }
+
+    // Puts the elements of a symbol on the card, and adds how many idents came to be held.
+    fn take(&mut self, values: &[u8], out: &mut Vec<u8>) -> io::Result<Outcome> {
+        let put = match &self.book {
+            BookInUse::Gs1 => self.card.take(&Gs1Book, values),
+            BookInUse::Hall(words) => self.card.take(&words.book(), values),
+        };
+        match put {
+            Ok(n) => tell(n, out),
+            Err(fault) => refuse(&fault, out),
+        }
+    }
+
+    // Adds the value that is held under an ident, or that none is held.
+    fn look(&self, ident: &[u8], out: &mut Vec<u8>) -> io::Result<Outcome> {
+        let mut text = [0; 30];
+        match self.card.look(ident, &mut text) {
+            Some(value) => write_value(&value, &text, out)?,
+            None => write!(out, "none")?,
+        }
+        writeln!(out)?;
+        Ok(Outcome::Done)
     }
 
     // Uses the GS1 book, and adds how many entries it has.
     fn use_gs1(&mut self, out: &mut Vec<u8>) -> io::Result<Outcome> {
         self.book = BookInUse::Gs1;
-        let n = Gs1Book.count();
-        writeln!(out, "ok {n}")?;
-        Ok(Outcome::Done)
+        tell(Gs1Book.count(), out)
     }
 
     // Uses the hall book of the words, and adds how many entries it has; where they are no book, keeps the one in use.
@@ -184,8 +236,7 @@ impl Session {
             Ok(hall) => {
                 let n = hall.book().count();
                 self.book = BookInUse::Hall(hall);
-                writeln!(out, "ok {n}")?;
-                Ok(Outcome::Done)
+                tell(n, out)
             }
             Err(fault) => refuse(&fault, out),
         }
@@ -242,9 +293,19 @@ impl Session {
     pub fn account(&self, out: &mut Vec<u8>) -> io::Result<()> {
         let commands = self.commands;
         let refused = self.refused;
-        let year = self.year.number();
+        let year = self.card.year().number();
+        let held = self.card.count();
         writeln!(out, "account")?;
         writeln!(out, "commands {commands} refused {refused}")?;
-        writeln!(out, "year {year}")
+        writeln!(out, "year {year}")?;
+        writeln!(out, "held {held}")?;
+        for place in 0..held {
+            let mut writing = [0; 30];
+            if let Some(element) = self.card.element(place, &mut writing) {
+                let (ident, reading) = element;
+                write_element(&ident, &reading, &writing, out)?;
+            }
+        }
+        Ok(())
     }
 }

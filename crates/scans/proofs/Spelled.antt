@@ -50,8 +50,8 @@ run-ends (b ∷ s) =
     ⊎-elim
     (λ e. inr (ap (λ p. gap (drop (cond (not p) (1 + run s) 0) (b ∷ s))) e ∙ ap (λ p. cond p 1 0) e))
     (λ e.
-      let one : drop (1 + run s) (b ∷ s) ≡ drop (run s) s = ap (λ k. drop k (b ∷ s)) (let z : 1 + run s ≡ suc (run s) = omega arith in z) in
-      ⊎-elim (λ h. inl (ap (λ p. drop (cond (not p) (1 + run s) 0) (b ∷ s)) e ∙ (one ∙ h))) (λ h. inr (ap (λ p. gap (drop (cond (not p) (1 + run s) 0) (b ∷ s))) e ∙ (ap gap one ∙ h))) (run-ends s))
+    let one : drop (1 + run s) (b ∷ s) ≡ drop (run s) s = ap (λ k. drop k (b ∷ s)) (let z : 1 + run s ≡ suc (run s) = omega arith in z) in
+    ⊎-elim (λ h. inl (ap (λ p. drop (cond (not p) (1 + run s) 0) (b ∷ s)) e ∙ (one ∙ h))) (λ h. inr (ap (λ p. gap (drop (cond (not p) (1 + run s) 0) (b ∷ s))) e ∙ (ap gap one ∙ h))) (run-ends s))
     (cases-bool (eqb b 29))
 
 -- what holds none goes on into what follows
@@ -103,13 +103,13 @@ length-cases : (e : Entry) (u n : ℕ) → fieldLength e u ≡ Some n → Fixed 
 length-cases e u n h =
     ⊎-elim
     (λ p. ⊎-elim
-      (λ q. inl (record { fixed = p; is = (let z : Some (e .longest) ≡ Some n = sym (cond-true _ _ _ p ∙ cond-true _ _ _ q) ∙ h in grind arith); enough = leb-true _ _ q }))
-      (λ q. absurd (let z : None ≡ Some n = sym (cond-true _ _ _ p ∙ cond-false _ _ _ q) ∙ h in grind arith))
-      (cases-bool (leb (e .longest) u)))
+    (λ q. inl (record { fixed = p; is = (let z : Some (e .longest) ≡ Some n = sym (cond-true _ _ _ p ∙ cond-true _ _ _ q) ∙ h in grind arith); enough = leb-true _ _ q }))
+    (λ q. absurd (let z : None ≡ Some n = sym (cond-true _ _ _ p ∙ cond-false _ _ _ q) ∙ h in grind arith))
+    (cases-bool (leb (e .longest) u)))
     (λ p. ⊎-elim
-      (λ q. let w = and-parts _ _ q in inr (record { free = p; is = (let z : Some u ≡ Some n = sym (cond-false _ _ _ p ∙ cond-true _ _ _ q) ∙ h in grind arith); least = leb-true _ _ (w .0); most = leb-true _ _ (w .1) }))
-      (λ q. absurd (let z : None ≡ Some n = sym (cond-false _ _ _ p ∙ cond-false _ _ _ q) ∙ h in grind arith))
-      (cases-bool (within (e .shortest) (e .longest) u)))
+    (λ q. let w = and-parts _ _ q in inr (record { free = p; is = (let z : Some u ≡ Some n = sym (cond-false _ _ _ p ∙ cond-true _ _ _ q) ∙ h in grind arith); least = leb-true _ _ (w .0); most = leb-true _ _ (w .1) }))
+    (λ q. absurd (let z : None ≡ Some n = sym (cond-false _ _ _ p ∙ cond-false _ _ _ q) ∙ h in grind arith))
+    (cases-bool (within (e .shortest) (e .longest) u)))
     (cases-bool (predefined (text e)))
 
 module _ (es : List Entry) (all : T (allLawful es)) (free : T (prefixFree es)) (y : ℕ) where
@@ -164,11 +164,14 @@ module _ (es : List Entry) (all : T (allLawful es)) (free : T (prefixFree es)) (
     cut-apart : Gap (record { entry = e; field = take n (drop (e .ident .digits) s) }) (take (gap (drop n (drop (e .ident .digits) s))) (drop n (drop (e .ident .digits) s))) (drop (e .ident .digits + n + gap (drop n (drop (e .ident .digits) s))) s)
     cut-apart =
         ⊎-elim inl
-        (λ none. inr (none .0, ⊎-elim
-          (λ c. inl (c .fixed))
-          (λ c. inr (onward-is ∙ ap (λ g. drop g (drop n (drop (e .ident .digits) s))) (none .1) ∙ ap (λ m. drop m (drop (e .ident .digits) s)) (c .is)
-            ∙ ⊎-elim (λ end. end) (λ one. absurd (let z : gap (drop n (drop (e .ident .digits) s)) ≡ 1 = ap (λ m. gap (drop m (drop (e .ident .digits) s))) (c .is) ∙ one in let w = none .1 in omega arith)) (run-ends (drop (e .ident .digits) s))))
-          (length-cases e _ n long)))
+        (λ none. inr (
+          none .0,
+          ⊎-elim
+              (λ c. inl (c .fixed))
+              (λ c. inr (onward-is ∙ ap (λ g. drop g (drop n (drop (e .ident .digits) s))) (none .1) ∙ ap (λ m. drop m (drop (e .ident .digits) s)) (c .is)
+              ∙ ⊎-elim (λ end. end) (λ one. absurd (let z : gap (drop n (drop (e .ident .digits) s)) ≡ 1 = ap (λ m. gap (drop m (drop (e .ident .digits) s))) (c .is) ∙ one in let w = none .1 in omega arith)) (run-ends (drop (e .ident .digits) s))))
+              (length-cases e _ n long),
+        ))
         (gap-cases (drop n (drop (e .ident .digits) s)))
 
     field-good : (o : Option FieldFault) → kind-fault (e .form) y (p + e .ident .digits) (take n (drop (e .ident .digits) s)) ≡ o → Good s (judged o e (take n (drop (e .ident .digits) s)) (e .ident .digits + n + gap (drop n (drop (e .ident .digits) s))))
@@ -210,19 +213,19 @@ module _ (es : List Entry) (all : T (allLawful es)) (free : T (prefixFree es)) (
   reads-spelled zero p (b ∷ s) xs h e = absurd (omega arith)
   reads-spelled (suc k) p (b ∷ s) xs h e =
       let behind : (f : Front) → Fronted (b ∷ s) f → (r : Result (List Element) ScanFault) → elements k es y (p + f .taken) (drop (f .taken) (b ∷ s)) ≡ r → before (f .element) r ≡ Ok xs → Spelled (b ∷ s) xs
-          = λ f good r. elim r as (λ r. elements k es y (p + f .taken) (drop (f .taken) (b ∷ s)) ≡ r → before (f .element) r ≡ Ok xs → Spelled (b ∷ s) xs) [
-            | Err x ↦ λ is was. absurd (let z : _≡_ {A = ℕ} 0 1 = cc in omega arith)
-            | Ok ys ↦ λ is was.
-                let shorter : length (drop (f .taken) (b ∷ s)) ≤ k = (let l = length-drop (f .taken) (b ∷ s) in let g = good .some in omega arith) in
-                let inner = reads-spelled k (p + f .taken) (drop (f .taken) (b ∷ s)) ys shorter is in
-                let z : f .element ∷ ys ≡ xs = cc in
-                subst (Spelled (b ∷ s)) z ((good .between, drop (f .taken) (b ∷ s), good .is, good .known, good .apart, inner .0), (good .lawful, inner .1))
-          ] in
+      = λ f good r. elim r as (λ r. elements k es y (p + f .taken) (drop (f .taken) (b ∷ s)) ≡ r → before (f .element) r ≡ Ok xs → Spelled (b ∷ s) xs) [
+        | Err x ↦ λ is was. absurd (let z : _≡_ {A = ℕ} 0 1 = cc in omega arith)
+        | Ok ys ↦ λ is was.
+            let shorter : length (drop (f .taken) (b ∷ s)) ≤ k = (let l = length-drop (f .taken) (b ∷ s) in let g = good .some in omega arith) in
+            let inner = reads-spelled k (p + f .taken) (drop (f .taken) (b ∷ s)) ys shorter is in
+            let z : f .element ∷ ys ≡ xs = cc in
+            subst (Spelled (b ∷ s)) z ((good .between, drop (f .taken) (b ∷ s), good .is, good .known, good .apart, inner .0), (good .lawful, inner .1))
+      ] in
       let first : (r : Result Front ScanFault) → Good (b ∷ s) r → onward r (λ f. before (f .element) (elements k es y (p + f .taken) (drop (f .taken) (b ∷ s)))) ≡ Ok xs → Spelled (b ∷ s) xs
-          = λ r. elim r as (λ r. Good (b ∷ s) r → onward r (λ f. before (f .element) (elements k es y (p + f .taken) (drop (f .taken) (b ∷ s)))) ≡ Ok xs → Spelled (b ∷ s) xs) [
-            | Err x ↦ λ good was. absurd (let z : _≡_ {A = ℕ} 0 1 = cc in omega arith)
-            | Ok f ↦ λ good was. behind f good _ refl was
-          ] in
+      = λ r. elim r as (λ r. Good (b ∷ s) r → onward r (λ f. before (f .element) (elements k es y (p + f .taken) (drop (f .taken) (b ∷ s)))) ≡ Ok xs → Spelled (b ∷ s) xs) [
+        | Err x ↦ λ good was. absurd (let z : _≡_ {A = ℕ} 0 1 = cc in omega arith)
+        | Ok f ↦ λ good was. behind f good _ refl was
+      ] in
       first (front es y p (b ∷ s)) (front-good (b ∷ s) p) e
 
   -- WHAT IS SPELLED IS READ
@@ -254,11 +257,11 @@ module _ (es : List Entry) (all : T (allLawful es)) (free : T (prefixFree es)) (
         let most = known .most in
         ⊎-elim
         (λ is-fixed.
-          let fixed = predefined-fixed (x .entry) is-fixed in
-          cond-true (predefined (text (x .entry))) _ _ is-fixed ∙ cond-true (leb (x .entry .longest) (run (drop (x .entry .ident .digits) s))) _ _ (le-leb (x .entry .longest) (run (drop (x .entry .ident .digits) s)) (let r = runs-on in omega arith)) ∙ ap Some (let z : x .entry .longest ≡ length (x .field) = omega arith in z))
+        let fixed = predefined-fixed (x .entry) is-fixed in
+        cond-true (predefined (text (x .entry))) _ _ is-fixed ∙ cond-true (leb (x .entry .longest) (run (drop (x .entry .ident .digits) s))) _ _ (le-leb (x .entry .longest) (run (drop (x .entry .ident .digits) s)) (let r = runs-on in omega arith)) ∙ ap Some (let z : x .entry .longest ≡ length (x .field) = omega arith in z))
         (λ other.
-          let whole : run (drop (x .entry .ident .digits) s) ≡ length (x .field) = (let r = runs-on in let f = free-ends other in omega arith) in
-          cond-false _ _ _ other ∙ ap (λ u. cond (within (x .entry .shortest) (x .entry .longest) u) (Some u) None) whole ∙ cond-true _ _ _ (and-from _ _ (le-leb _ _ least) (le-leb _ _ most)))
+        let whole : run (drop (x .entry .ident .digits) s) ≡ length (x .field) = (let r = runs-on in let f = free-ends other in omega arith) in
+        cond-false _ _ _ other ∙ ap (λ u. cond (within (x .entry .shortest) (x .entry .longest) u) (Some u) None) whole ∙ cond-true _ _ _ (and-from _ _ (le-leb _ _ least) (le-leb _ _ most)))
         (cases-bool (predefined (text (x .entry))))
 
     field-there : take (length (x .field)) (drop (x .entry .ident .digits) s) ≡ x .field
@@ -309,16 +312,17 @@ module _ (es : List Entry) (all : T (allLawful es)) (free : T (prefixFree es)) (
 -- THE LAW
 
 pub read-as-spelled : (es : List Entry) → T (allLawful es) → T (prefixFree es) → Read-as-spelled es
-read-as-spelled es all free y s xs =
-    (λ e. ⊎-elim
+read-as-spelled es all free y s xs = (
+  λ e. ⊎-elim
       (λ marked.
-        let got : elements (length s) es y 3 (drop 3 s) ≡ Ok xs = sym (cond-true _ _ _ marked) ∙ e in
-        let both = reads-spelled es all free y (length s) 3 (drop 3 s) xs (let l = length-drop 3 s in omega arith) got in
-        record { body = drop 3 s; marked = starts-front mark s marked; spelled = both .0; lawful = both .1 })
+      let got : elements (length s) es y 3 (drop 3 s) ≡ Ok xs = sym (cond-true _ _ _ marked) ∙ e in
+      let both = reads-spelled es all free y (length s) 3 (drop 3 s) xs (let l = length-drop 3 s in omega arith) got in
+      record { body = drop 3 s; marked = starts-front mark s marked; spelled = both .0; lawful = both .1 })
       (λ other. absurd (let z : Err NoMark ≡ Ok xs = sym (cond-false _ _ _ other) ∙ e in let w : _≡_ {A = ℕ} 0 1 = cc in omega arith))
       (cases-bool (starts mark s)),
-    λ c.
+  λ c.
       let body : drop 3 s ≡ c .body = ap (drop 3) (c .marked) in
       cond-true _ _ _ (ap (starts mark) (c .marked) ∙ starts-own mark (c .body))
       ∙ ap (elements (length s) es y 3) body
-      ∙ spelled-reads es all free y (length s) 3 (c .body) xs (let l = ap length (c .marked) in omega arith) (c .spelled) (c .lawful))
+      ∙ spelled-reads es all free y (length s) 3 (c .body) xs (let l = ap length (c .marked) in omega arith) (c .spelled) (c .lawful),
+)
