@@ -9,3 +9,5 @@ pub mod Puts
 pub mod Tellings
 pub mod Walks
 pub mod Readings
+pub mod Adds
+pub mod Reasons

@@ -14,18 +14,18 @@ use Rattle.cards.specs.Tallies.{Held, Put, put}
 use Rattle.cards.specs.Outcomes.{heldAs, onFront, onPut, puts}
 
 module _ (es : List Entry) (y : ℕ) where
-  puts-none : (k : ℕ) (hs : List Held) (n p : ℕ) → puts k es y hs n p [] ≡ Ok (record { new = n; held = hs })
+  pub puts-none : (k : ℕ) (hs : List Held) (n p : ℕ) → puts k es y hs n p [] ≡ Ok (record { new = n; held = hs })
   unfolding puts
   puts-none zero hs n p = refl
   puts-none (suc k) hs n p = refl
 
   module _ (k : ℕ) (hs : List Held) (n p : ℕ) where
-    puts-fault : (s : List ℕ) (e : ScanFault) → 0 < length s → front es y p s ≡ Err e → puts (suc k) es y hs n p s ≡ Err e
+    pub puts-fault : (s : List ℕ) (e : ScanFault) → 0 < length s → front es y p s ≡ Err e → puts (suc k) es y hs n p s ≡ Err e
     unfolding puts
     puts-fault [] e h f = absurd (omega arith)
     puts-fault (b ∷ s) e h f = ap (λ r. onFront r (λ g. onPut (put p hs (heldAs y (g .element))) (λ q. puts k es y (q .held) (n + q .new) (p + g .taken) (drop (g .taken) (b ∷ s))))) f
 
-    puts-more : (s : List ℕ) (x : Element) (t : ℕ) → 0 < length s → front es y p s ≡ Ok (record { element = x; taken = t })
+    pub puts-more : (s : List ℕ) (x : Element) (t : ℕ) → 0 < length s → front es y p s ≡ Ok (record { element = x; taken = t })
         → puts (suc k) es y hs n p s ≡ onPut (put p hs (heldAs y x)) (λ q. puts k es y (q .held) (n + q .new) (p + t) (drop t s))
     unfolding puts
     puts-more [] x t h f = absurd (omega arith)

@@ -7,4 +7,6 @@ pub mod make;
 pub mod row;
 mod scan;
 mod search;
+#[cfg(test)]
+mod tests;
 mod turn;

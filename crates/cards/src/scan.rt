@@ -10,6 +10,7 @@ ghost use Rattle.cards.specs.Rows.{heldIn};
 ghost use Rattle.cards.specs.Cards.{tally};
 ghost use Rattle.cards.specs.Outcomes.{scanOutcome, takeOutcome};
 ghost use Rattle.cards.specs.Answers.{Puts, PutsOn};
+ghost use Rattle.cards.specs.Adding.{Scan-law};
 use crate::card::Card;
 use crate::row::Row;
 use books::book::Book;
@@ -65,15 +66,23 @@ impl Card {
         Ok(new)
     }
 
-    // Puts all elements of a scan on the card, and says how many idents came to be held that were not; or refuses, and the card is
-    // as it was.
-    pub fn scan<B: Book>(&mut self, book: &B, scan: &[u8]) -> Result<usize, ScanFault>
+    // Puts all elements of a scan on the card, or refuses, and the card is as it was.
+    fn put_scan<B: Book>(&mut self, book: &B, scan: &[u8]) -> Result<usize, ScanFault>
         ensures { λ r. ⌜ Puts (scanOutcome (B·Book .entries (now (book .entry))) (tally (now (self .entry))) (now (scan .entry))) (now (self .entry)) (now (self .exit)) r ⌝ }
     {
         let mut card = *self;
         let new = card.put_all(book, scan)?;
         *self = card;
         Ok(new)
+    }
+
+    // Puts all elements of a scan on the card, and says how many idents came to be held that were not; or refuses, and the card is
+    // as it was. An accepted scan adds the elements that it spells and nothing else; a refused one tells the first reason.
+    pub fn scan<B: Book>(&mut self, book: &B, scan: &[u8]) -> Result<usize, ScanFault>
+        ensures is { λ r. ⌜ Puts (scanOutcome (B·Book .entries (now (book .entry))) (tally (now (self .entry))) (now (scan .entry))) (now (self .entry)) (now (self .exit)) r ⌝ }
+        ensures law { λ _. ⌜ Scan-law (B·Book .entries (now (book .entry))) ⌝ }
+    {
+        self.put_scan(book, scan)
     }
 
     // Puts all elements of a symbol's data on the card, as a scan of them would; or refuses, and the card is as it was.

@@ -18,7 +18,7 @@ use Rattle.books.specs.Entries.{In, allLawful, prefixFree}
 use Rattle.books.specs.declared.entry.Entry.{Entry}
 use Rattle.scans.specs.Elements.{Element, plain, gap, front}
 use Rattle.scans.specs.Spelling.{Known, Gap}
-use Rattle.scans.proofs.Spelled.{text-long, text-first, gap-none, taken-all, front-spelled, left-there}
+use Rattle.scans.proofs.Spelled.{text-long, text-first, gap-none, Takes, takes}
 use Rattle.cards.specs.Tallies.{Held, ident}
 use Rattle.cards.specs.Outcomes.{heldAs}
 use Rattle.cards.specs.Strings.{piece, parting, ending, spelled}
@@ -93,8 +93,5 @@ pub record Read (es : List Entry) (y p : ℕ) (x : Held) (xs : List Held) : Type
 pub first-read : (es : List Entry) → T (allLawful es) → T (prefixFree es) → (y p : ℕ) (x : Held) (xs : List Held) → In (x .entry) es → Stands y x → Read es y p x xs
 first-read es all free y p x xs i s =
     let known : Known es (elementOf x) = record { listed = i; least = s .least; most = s .most; plainly = every-plain (written (x .value)) (s .text) } in
-    record {
-      taken = taken-all es all free y p (spelled (x ∷ xs)) (elementOf x) (behind x xs) (spelled xs) (spelled-is x xs) known (apart-is x xs) (s .means .lawful) (first-is xs);
-      is = front-spelled es all free y p (spelled (x ∷ xs)) (elementOf x) (behind x xs) (spelled xs) (spelled-is x xs) known (apart-is x xs) (s .means .lawful) (first-is xs);
-      rest = left-there es all free y p (spelled (x ∷ xs)) (elementOf x) (behind x xs) (spelled xs) (spelled-is x xs) known (apart-is x xs) (s .means .lawful) (first-is xs);
-    }
+    let t : Takes es all free y p (spelled (x ∷ xs)) (elementOf x) (spelled xs) = takes es all free y p (spelled (x ∷ xs)) (elementOf x) (behind x xs) (spelled xs) (spelled-is x xs) known (apart-is x xs) (s .means .lawful) (λ _. first-is xs) in
+    record { taken = t .taken; is = t .seen; rest = t .left }

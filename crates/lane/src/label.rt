@@ -1,10 +1,6 @@
 // A symbol that is written for a label, and the buffer that it stands in.
-ghost use mathlib.Core.Path.{_≡_};
-ghost use mathlib.Core.List.{[]};
-ghost use lib.ListN.{length, take};
-ghost use Rattle.std.specs.Of.Vec.{vec-items};
-ghost use Rattle.std.specs.Results.{Cases};
 ghost use Rattle.std.specs.Vec.{made};
+ghost use Rattle.lane.specs.Labels.{Begins, Adds, Seals};
 use std::alloc::AllocError;
 use std::alloc::Global;
 use symbols::fault::AddFault;
@@ -23,7 +19,9 @@ pub struct OpenSymbol {
 
 impl OpenSymbol {
     // Begins a symbol over a buffer of `room` bytes.
-    pub fn begin(heap: Global, room: usize) -> Result<Result<OpenSymbol, WriterFault>, AllocError> {
+    pub fn begin(heap: Global, room: usize) -> Result<Result<OpenSymbol, WriterFault>, AllocError>
+        ensures { λ r. ⌜ made r (λ got. Begins got room) ⌝ }
+    {
         let mut buffer = vec![in heap; 0; room]?;
         match begin(buffer.as_mut_slice()) {
             Ok(state) => Ok(Ok(OpenSymbol { state, buffer })),
@@ -32,7 +30,9 @@ impl OpenSymbol {
     }
 
     // Adds an element, or gives the symbol back as it was.
-    pub fn add(self, element: &[u8]) -> Result<OpenSymbol, (OpenSymbol, AddFault)> {
+    pub fn add(self, element: &[u8]) -> Result<OpenSymbol, (OpenSymbol, AddFault)>
+        ensures { λ r. ⌜ Adds r self (now (element .entry)) ⌝ }
+    {
         let OpenSymbol { state, mut buffer } = self;
         match add(state, buffer.as_mut_slice(), element) {
             Ok(state) => Ok(OpenSymbol { state, buffer }),
@@ -44,7 +44,9 @@ impl OpenSymbol {
     }
 
     // Seals the symbol: all its values; or gives it back as it was.
-    pub fn seal(self) -> Result<Vec<u8>, (OpenSymbol, WriterFault)> {
+    pub fn seal(self) -> Result<Vec<u8>, (OpenSymbol, WriterFault)>
+        ensures { λ r. ⌜ Seals r self ⌝ }
+    {
         let OpenSymbol { state, mut buffer } = self;
         match seal(state, buffer.as_mut_slice()) {
             Ok(n) => {

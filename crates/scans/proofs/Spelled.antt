@@ -14,7 +14,7 @@ use Rattle.std.specs.declared.result.Result.{Result}
 use Rattle.std.specs.declared.result.Result.the-variants.{Ok, Err}
 use Rattle.std.proofs.shelf.Lists.{take-append-drop, take-at, drop-at, drop-drop, length-take-le, drop-all}
 use Rattle.std.proofs.shelf.Sums.{leading-le-length}
-use Rattle.std.proofs.shelf.Tests.{and-parts, and-from, cond-both, cond-true, cond-false, cases-bool, both-ways, leb-true, le-leb, eqb-true, ne-eqb}
+use Rattle.std.proofs.shelf.Tests.{and-parts, and-from, cond-both, cond-true, cond-false, cases-bool, both-ways, leb-true, le-leb, eqb-true, eq-eqb, ne-eqb}
 use Rattle.forms.specs.Bytes.{within, every, lastDigits}
 use Rattle.forms.specs.Kinds.{kind-lawful, kind-fault}
 use Rattle.forms.specs.declared.fault.FieldFault.{FieldFault}
@@ -69,6 +69,15 @@ gap-cases (b ∷ s) =
     (λ e. inr (ap (λ p. take (cond p 1 0) (b ∷ s)) e, ap (λ p. cond p 1 0) e))
     (cases-bool (eqb b 29))
 
+-- where no separator was taken off, none stands in front
+gap-closed : (s : List ℕ) → take (gap s) s ≡ [] → getD (drop (gap s) s) 0 0 ≡ 29 → ⊥
+gap-closed [] none first = omega arith
+gap-closed (b ∷ s) none first =
+    ⊎-elim
+    (λ e. let z : b ∷ [] ≡ [] = ap (λ p. take (cond p 1 0) (b ∷ s)) (sym e) ∙ none in let w : _≡_ {A = ℕ} 0 1 = cc in omega arith)
+    (λ e. both-ways (eqb b 29) e (eq-eqb b 29 (ap (λ p. getD (drop (cond p 1 0) (b ∷ s)) 0 0) (sym e) ∙ first)))
+    (cases-bool (eqb b 29))
+
 pub gap-none : (s : List ℕ) → (getD s 0 0 ≡ 29 → ⊥) → gap s ≡ 0
 gap-none [] h = refl
 gap-none (b ∷ s) h = ap (λ p. cond p 1 0) (ne-eqb b 29 h)
@@ -120,6 +129,7 @@ module _ (es : List Entry) (all : T (allLawful es)) (free : T (prefixFree es)) (
     pub is : s ≡ text (f .element .entry) ++ (f .element .field ++ (between ++ drop (f .taken) s))
     pub known : Known es (f .element)
     pub apart : Gap (f .element) between (drop (f .taken) s)
+    pub closed : between ≡ [] → getD (drop (f .taken) s) 0 0 ≡ 29 → ⊥
     pub lawful : kind-lawful (f .element .entry .form) y (f .element .field)
     pub some : 0 < f .taken
 
@@ -174,6 +184,9 @@ module _ (es : List Entry) (all : T (allLawful es)) (free : T (prefixFree es)) (
         ))
         (gap-cases (drop n (drop (e .ident .digits) s)))
 
+    cut-closed : take (gap (drop n (drop (e .ident .digits) s))) (drop n (drop (e .ident .digits) s)) ≡ [] → getD (drop (e .ident .digits + n + gap (drop n (drop (e .ident .digits) s))) s) 0 0 ≡ 29 → ⊥
+    cut-closed none first = gap-closed (drop n (drop (e .ident .digits) s)) none (ap (λ r. getD r 0 0) (sym onward-is) ∙ first)
+
     field-good : (o : Option FieldFault) → kind-fault (e .form) y (p + e .ident .digits) (take n (drop (e .ident .digits) s)) ≡ o → Good s (judged o e (take n (drop (e .ident .digits) s)) (e .ident .digits + n + gap (drop n (drop (e .ident .digits) s))))
     field-good (Some f) h = tt
     field-good None h =
@@ -182,6 +195,7 @@ module _ (es : List Entry) (all : T (allLawful es)) (free : T (prefixFree es)) (
           is = cut-is;
           known = cut-known;
           apart = cut-apart;
+          closed = cut-closed;
           lawful = kind-judged (e .form) y (p + e .ident .digits) (take n (drop (e .ident .digits) s)) .stands h;
           some = (let l = e .ident .least in omega arith);
         }
@@ -235,12 +249,20 @@ module _ (es : List Entry) (all : T (allLawful es)) (free : T (prefixFree es)) (
   spelled-first s [] h = ap gap h
   spelled-first s (x ∷ xs) h = gap-none s (text-first (x .entry) s (x .field ++ (h .0 ++ h .1)) (h .2))
 
-  module _ (p : ℕ) (s : List ℕ) (x : Element) (between rest : List ℕ) (is : s ≡ text (x .entry) ++ (x .field ++ (between ++ rest))) (known : Known es x) (apart : Gap x between rest) (lawful : kind-lawful (x .entry .form) y (x .field)) (first : gap rest ≡ 0) where
+  -- the element x is read in front of s, and `rest` stands behind it
+  pub record Takes (p : ℕ) (s : List ℕ) (x : Element) (rest : List ℕ) : Type 0 where
+    pub taken : ℕ
+    pub seen : front es y p s ≡ Ok (record { element = x; taken = taken })
+    pub left : drop taken s ≡ rest
+    pub long : taken + length rest ≡ length s
+    pub shorter : length rest < length s
+
+  module _ (p : ℕ) (s : List ℕ) (x : Element) (between rest : List ℕ) (is : s ≡ text (x .entry) ++ (x .field ++ (between ++ rest))) (known : Known es x) (apart : Gap x between rest) (lawful : kind-lawful (x .entry .form) y (x .field)) (first : between ≡ [] → gap rest ≡ 0) where
     behind-ident : drop (x .entry .ident .digits) s ≡ x .field ++ (between ++ rest)
     behind-ident = ap (drop (x .entry .ident .digits)) is ∙ drop-at (text (x .entry)) (x .field ++ (between ++ rest)) (x .entry .ident .digits) (text-long (x .entry))
 
     gap-long : gap (between ++ rest) ≡ length between
-    gap-long = ⊎-elim (λ e. ap (λ b. gap (b ++ rest)) e ∙ ap length (sym e)) (λ e. ap (λ b. gap (b ++ rest)) (e .0) ∙ first ∙ ap length (sym (e .0))) apart
+    gap-long = ⊎-elim (λ e. ap (λ b. gap (b ++ rest)) e ∙ ap length (sym e)) (λ e. ap (λ b. gap (b ++ rest)) (e .0) ∙ first (e .0) ∙ ap length (sym (e .0))) apart
 
     runs-on : run (drop (x .entry .ident .digits) s) ≡ length (x .field) + run (between ++ rest)
     runs-on = ap run behind-ident ∙ run-append (x .field) (between ++ rest) (known .plainly)
@@ -270,44 +292,41 @@ module _ (es : List Entry) (all : T (allLawful es)) (free : T (prefixFree es)) (
     rest-there : drop (length (x .field)) (drop (x .entry .ident .digits) s) ≡ between ++ rest
     rest-there = ap (drop (length (x .field))) behind-ident ∙ drop-at (x .field) (between ++ rest) (length (x .field)) refl
 
-    pub taken-all : ℕ
-    taken-all = x .entry .ident .digits + length (x .field) + length between
-
-    pub front-spelled : front es y p s ≡ Ok (record { element = x; taken = taken-all })
-    unfolding taken-all
+    front-spelled : front es y p s ≡ Ok (record { element = x; taken = x .entry .ident .digits + length (x .field) + length between })
     front-spelled =
         front-element es y p s (x .entry) (text-first (x .entry) s (x .field ++ (between ++ rest)) is) (ap (found es) is ∙ finds-own es all free (x .entry) (known .listed) (x .field ++ (between ++ rest))) (length (x .field)) field-length
         (ap (kind-fault (x .entry .form) y (p + x .entry .ident .digits)) field-there ∙ kind-judged (x .entry .form) y (p + x .entry .ident .digits) (x .field) .clean lawful)
         ∙ ap (λ f. Ok (record { element = record { entry = x .entry; field = f }; taken = x .entry .ident .digits + length (x .field) + gap (drop (length (x .field)) (drop (x .entry .ident .digits) s)) })) field-there
         ∙ ap (λ g. Ok (record { element = x; taken = x .entry .ident .digits + length (x .field) + g })) (ap gap rest-there ∙ gap-long)
 
-    pub left-there : drop taken-all s ≡ rest
-    unfolding taken-all
-    left-there =
-        sym (drop-drop (length between) (x .entry .ident .digits + length (x .field)) s)
-        ∙ ap (drop (length between)) (sym (drop-drop (length (x .field)) (x .entry .ident .digits) s) ∙ rest-there)
-        ∙ drop-at between rest (length between) refl
-
-    left-shorter : length rest < length s
-    left-shorter =
+    pub takes : Takes p s x rest
+    takes =
         let l = ap length is ∙ length-append (text (x .entry)) (x .field ++ (between ++ rest)) in
         let m = length-append (x .field) (between ++ rest) in
         let n = length-append between rest in
         let t = text-long (x .entry) in
         let d = x .entry .ident .least in
-        omega arith
+        record {
+          taken = x .entry .ident .digits + length (x .field) + length between;
+          seen = front-spelled;
+          left =
+              sym (drop-drop (length between) (x .entry .ident .digits + length (x .field)) s)
+              ∙ ap (drop (length between)) (sym (drop-drop (length (x .field)) (x .entry .ident .digits) s) ∙ rest-there)
+              ∙ drop-at between rest (length between) refl;
+          long = omega arith;
+          shorter = omega arith;
+        }
 
   spelled-reads : (k p : ℕ) (s : List ℕ) (xs : List Element) → length s ≤ k → Spells es s xs → Lawful y xs → elements k es y p s ≡ Ok xs
   spelled-reads k p s [] h is lawful = ap (elements k es y p) is ∙ elements-none es y k p
-  spelled-reads zero p s (x ∷ xs) h is lawful =
-      absurd (let l = left-shorter p s x (is .0) (is .1) (is .2) (is .3) (is .4) (lawful .0) (spelled-first (is .1) xs (is .5)) in omega arith)
-  spelled-reads (suc k) p s (x ∷ xs) h is lawful =
-      let first = spelled-first (is .1) xs (is .5) in
-      let short : length (is .1) < length s = left-shorter p s x (is .0) (is .1) (is .2) (is .3) (is .4) (lawful .0) first in
-      let t = taken-all p s x (is .0) (is .1) (is .2) (is .3) (is .4) (lawful .0) first in
-      elements-more es y k p s x (taken-all p s x (is .0) (is .1) (is .2) (is .3) (is .4) (lawful .0) first) (omega arith) (front-spelled p s x (is .0) (is .1) (is .2) (is .3) (is .4) (lawful .0) first)
-      ∙ ap (λ r. before x (elements k es y (p + taken-all p s x (is .0) (is .1) (is .2) (is .3) (is .4) (lawful .0) first) r)) (left-there p s x (is .0) (is .1) (is .2) (is .3) (is .4) (lawful .0) first)
-      ∙ ap (before x) (spelled-reads k (p + taken-all p s x (is .0) (is .1) (is .2) (is .3) (is .4) (lawful .0) first) (is .1) xs (omega arith) (is .5) (lawful .1))
+  spelled-reads k p s (x ∷ xs) h is lawful =
+      let t : Takes p s x (is .1) = takes p s x (is .0) (is .1) (is .2) (is .3) (is .4) (lawful .0) (λ _. spelled-first (is .1) xs (is .5)) in
+      let short = t .shorter in
+      let turns : k ≡ suc (k - 1) = omega arith in
+      ap (λ k. elements k es y p s) turns
+      ∙ elements-more es y (k - 1) p s x (t .taken) (omega arith) (t .seen)
+      ∙ ap (λ r. before x (elements (k - 1) es y (p + t .taken) r)) (t .left)
+      ∙ ap (before x) (spelled-reads (k - 1) (p + t .taken) (is .1) xs (omega arith) (is .5) (lawful .1))
 
 -- THE LAW
 

@@ -4,7 +4,7 @@ use mathlib.Core.Bool.{true, false}
 use mathlib.Core.Logic.{_⊎_}
 use mathlib.Core.List.{List, [], _∷_, _++_}
 use Prim.Native.Nat.{ℕ, _≤_}
-use lib.ListN.{length}
+use lib.ListN.{length, getD}
 use Rattle.std.specs.declared.result.Result.the-variants.{Ok}
 use Rattle.forms.specs.Bytes.{every}
 use Rattle.forms.specs.Years.{InSpan}
@@ -36,6 +36,14 @@ Spells es s (x ∷ xs) =
 abbrev pub Lawful : ℕ → List Element → Type 0
 Lawful y [] = Unit {0}
 Lawful y (x ∷ xs) = kind-lawful (x .entry .form) y (x .field) × Lawful y xs
+
+-- the elements stand in front of the bytes s, each lawful in the year y, and `rest` is what stands behind them; a separator
+-- behind the last of them is no part of the rest
+abbrev pub Begins : List Entry → ℕ → List ℕ → List Element → List ℕ → Type 0
+Begins es y s [] rest = s ≡ rest
+Begins es y s (x ∷ xs) rest =
+    (gap : List ℕ) × (behind : List ℕ) × (s ≡ text (x .entry) ++ (x .field ++ (gap ++ behind))) × Known es x × Gap x gap behind
+    × (gap ≡ [] → getD behind 0 0 ≡ 29 → ⊥) × kind-lawful (x .entry .form) y (x .field) × Begins es y behind xs rest
 
 -- a scan of elements: the mark, the elements spelled, each field lawful
 pub record Scan (es : List Entry) (y : ℕ) (s : List ℕ) (xs : List Element) : Type 0 where
