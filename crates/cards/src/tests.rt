@@ -29,8 +29,8 @@ fn scans_twice() -> Result<(), Fail> {
 fn strikes_and_puts_again() -> Result<(), Fail> {
     let mut card = Card::make();
     check_eq(card.scan(&Gs1Book, b"]C110A")?, 1)?;
-    let refused = card.scan(&Gs1Book, b"]C1150001011037\x1d10B");
-    check_eq(refused, Err(ScanFault::Differs { place: 15 }))?;
+    let refused = card.scan(&Gs1Book, b"]C11500010110B");
+    check_eq(refused, Err(ScanFault::Differs { place: 11 }))?;
     card.strike(b"10")?;
     check_eq(card.scan(&Gs1Book, b"]C110B")?, 1)?;
     check_eq(card.count(), 1)

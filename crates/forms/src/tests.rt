@@ -32,7 +32,10 @@ fn leap_years() -> Result<(), Fail> {
 #[test]
 fn check_digits() -> Result<(), Fail> {
     let mut out = [0; 30];
-    check_eq(rewrite::<KeyForm>(Year::FIRST, b"04841234123457", 5, &mut out)?, 14)?;
+    check_eq(
+        rewrite::<KeyForm>(Year::FIRST, b"04841234123457", 5, &mut out)?,
+        14,
+    )?;
     check_eq(out[13], b'7')?;
     let refused = rewrite::<KeyForm>(Year::FIRST, b"04841234123458", 5, &mut out);
     check_eq(refused, Err(FieldFault::CheckDigit { place: 18 }))
