@@ -81,6 +81,11 @@ module _ (es : List Entry) (all : T (all_lawful es)) (free : T (prefix_free es))
   pub found-begins : (s : List ℕ) (e : Entry) → found es s ≡ Some e → s ≡ text e ++ drop (length (text e)) s
   found-begins s e h = starts-front (text e) s (found-cases s es e h).1
 
+  -- where nothing is found, no entry's ident begins the bytes
+  pub found_none : (s : List ℕ) → found es s ≡ None → (e : Entry) → In e es → (rest : List ℕ) → s ≡ text e ++ rest → ⊥
+  found_none s h e i rest p =
+      both_ways (starts (text e) s) (none_begins s es h e i) (ap (starts (text e)) p ∙ starts-own (text e) rest)
+
   -- entries whose idents overlap are one entry
   pub one_entry : (d e : Entry) → In d es → In e es → overlap (text d) (text e) ≡ true → d ≡ e
   one_entry = free_one es (holds (prefix_free es) free)
@@ -93,3 +98,7 @@ module _ (es : List Entry) (all : T (all_lawful es)) (free : T (prefix_free es))
       let d = some_found s es (found es s) refl e i b in
       let h = found-cases s es d.0 d.1 in
       d.1 ∙ ap Some (one_entry d.0 e h.0 i (both-begin (text d.0) (text e) s h.1 b))
+
+  -- and it is lawful
+  pub lawful-in : (e : Entry) → In e es → T (lawful e.ident.digits e.ident.number e.form e.shortest e.longest)
+  lawful-in e i = e.ok

@@ -46,3 +46,31 @@ first_or_same (x ∷ xs) (y ∷ ys) =
     (λ e. ⊎_elim (λ t. inl (λ k. e k ∷ t k)) (⊎_elim (λ f. inr (inl (first_tail x y xs ys e f))) (λ f. inr (inr (first_tail y x ys xs (sym e) f)))) (first_or_same xs ys))
     (⊎_elim (λ l. inr (inl (first_less x y xs ys l))) (λ l. inr (inr (first_less y x ys xs l))))
     (cases_order x y)
+
+-- a predefined ident stands before one that is not
+pub predefined-first : (t u : List ℕ) → predefined t ≡ true → predefined u ≡ false → comes_first (rank t) (rank u) ≡ true
+predefined-first t u p q = rw (p, q)
+
+-- of idents of one kind, the first as text stands first
+pub same_kind_by_text : (t u : List ℕ) → predefined t ≡ predefined u → comes_first (rank t) (rank u) ≡ comes_first t u
+same_kind_by_text t u e =
+    let h : (b : Bool) → comes_first (cond b 0 1 ∷ t) (cond b 0 1 ∷ u) ≡ comes_first t u = λ b. elim b as (λ v. comes_first (cond v 0 1 ∷ t) (cond v 0 1 ∷ u) ≡ comes_first t u) [ true ↦ refl | false ↦ refl ] in
+    rw e (h (predefined u))
+
+four_digits : (n p q r x y z w : ℕ) → x ≡ r → q ≡ 10 * r + y → p ≡ 10 * q + z → n ≡ 10 * p + w
+    → n ≡ 10 * (10 * (10 * (10 * 0 + (48 + x - 48)) + (48 + y - 48)) + (48 + z - 48)) + (48 + w - 48)
+four_digits n p q r x y z w a b c d = omega arith
+
+-- the digits write the number
+pub digits_number : (n d : ℕ) → 2 ≤ d → d ≤ 4 → n < 10 ^ d → n ≡ number (last_digits d n)
+digits_number n =
+    let ten : n / 10 / 10 ≡ n / 100 = div-div-eq-div-mul n 10 10 in
+    let hundred : n / 100 / 10 ≡ n / 1000 = div-div-eq-div-mul n 100 10 in
+    at_digits (λ d. n < 10 ^ d → n ≡ number (last_digits d n)) (λ h. omega arith) (λ h. omega arith)
+    (λ h. four_digits n (n / 10) (n / 100) (n / 1000) (n / 1000 % 10) (n / 100 % 10) (n / 10 % 10) (n / 1 % 10) (omega arith) (omega arith) (omega arith) (omega arith))
+
+-- idents with one text are one ident
+pub same_text : (i j : Ident) → ident_text i ≡ ident_text j → i ≡ j
+same_text i j e =
+    same_ident i j (sym (length_digits i.digits i.number) ∙ ap length e ∙ length_digits j.digits j.number)
+    (digits_number i.number i.digits i.least i.most i.fits ∙ ap number e ∙ sym (digits_number j.number j.digits j.least j.most j.fits))

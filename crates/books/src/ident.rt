@@ -41,11 +41,11 @@ fn power(k: u8) -> u16
     }
 }
 
-// The length of ident and field together that an ident's first two digits predefine, given as the number that they write.
-pub fn predefined_length(first_two: u16) -> Option<u8>
-    ensures { result ≡ whole first_two }
+// The length of ident and field together that two first digits predefine.
+fn whole_behind(two: u16) -> Option<u8>
+    ensures { result ≡ whole two }
 {
-    match first_two {
+    match two {
         0 => Some(20),
         1..=3 | 41 => Some(16),
         4 => Some(18),
@@ -124,7 +124,7 @@ impl Ident {
     pub fn whole_length(&self) -> Option<u8>
         ensures { result ≡ whole (lead (last_digits self.now.digits self.now.number)) }
     {
-        predefined_length(self.number / power(self.digits - 2))
+        whole_behind(self.number / power(self.digits - 2))
     }
 
     // Whether the first two digits predefine a length.

@@ -8,4 +8,6 @@ pub mod ident;
 mod load;
 mod row;
 mod spelled;
+#[cfg(test)]
+mod tests;
 mod word;

@@ -11,8 +11,3 @@ pub mod Walks
 pub mod Readings
 pub mod Adds
 pub mod Reasons
-pub mod Spells
-pub mod Pieces
-pub mod Fillings
-pub mod Prints
-pub mod Chosen

@@ -1,127 +1,41 @@
--- Values that stand in a card's year: each is what its own writing means, and its entry takes that writing.
-use Rattle.std.proofs.Common.{◌≡◌, ℕ, ◌<◌, ◌≤◌, true, false, not, T, eqb, leb, List, length, is_some, Some, None, Option, sym, refl, ap, ◌∙◌, arith}
-use Rattle.std.proofs.lemmas.Bool.{and_parts, and_from, eqb-true, leb-true, le-leb, not-false}
-use Rattle.forms.specs.Bytes.{allowed, digit, every, pair}
-use Rattle.forms.specs.Dates.{full_year}
-use Rattle.forms.specs.Kinds.{kind_lawful, kind_fault, kind_meaning}
-use Rattle.forms.specs.Values.{Meaning, written, date_means, stamp_means}
+-- Values that are lawful in a year.
+use Rattle.std.proofs.Common.{◌≡◌, ℕ, Bool, true, false, cond, not, ◌&&◌, List, [], ◌∷◌, is_some, Some, None, Option, sym, refl, ap, ◌∙◌, subst, arith}
+use Rattle.std.proofs.lemmas.Bool.{and_parts, and_from}
 use Rattle.forms.specs.Years.{InSpan}
-use Rattle.forms.specs.declared.fault.FieldFault.{FieldFault}
+use Rattle.forms.specs.Values.{Meaning, written}
+use Rattle.forms.specs.Kinds.{kind_lawful, kind_fault, kind_meaning}
 use Rattle.forms.specs.declared.kind.FormKind.{FormKind}
-use Rattle.forms.specs.declared.kind.FormKind.TheVariants as form
-use Rattle.forms.specs.DateLaws.{date_kept, stamp_kept, century_kept}
-use Rattle.forms.proofs.KindLaws.{kind_exact, kind_judged, kind_rewrites, kind_lengths}
-use Rattle.books.specs.Lawful.{form_allows}
+use Rattle.forms.specs.declared.fault.FieldFault.{FieldFault}
+use Rattle.forms.proofs.KindLaws.{kind_judged, kind_rewrites}
 use Rattle.books.specs.declared.entry.Entry.{Entry}
-use Rattle.books.proofs.Finds.{holds}
-use Rattle.books.proofs.Lengths.{form_kept}
-use Rattle.cards.specs.Tallies.{Held, near, outside}
-use Rattle.cards.specs.Regular.{fits, stands}
+use Rattle.cards.specs.Tallies.{Held}
+use Rattle.cards.specs.Regular.{stands}
 use Rattle.cards.proofs.Sames.{meaning-same, meaning-itself}
-
--- in the year y the writing of the value is a lawful field of the form, and means the value
-pub record Means (k : FormKind) (y : ℕ) (v : Meaning) : Type 0 where
-  pub lawful : kind_lawful k y (written v)
-  pub same : kind_meaning k y (written v) ≡ v
-
--- the writing has a length that the entry allows, and the bytes of a text
-pub record Fits (x : Held) : Type 0 where
-  pub text : every allowed (written x.value) ≡ true
-  pub least : x.entry.shortest ≤ length (written x.value)
-  pub most : length (written x.value) ≤ x.entry.longest
-
-pub record Stands (y : ℕ) (x : Held) : Type 0 where
-  pub means : Means x.entry.form y x.value
-  pub fit : Fits x
-
--- AS TESTS
 
 none_some : (o : Option FieldFault) → not (is_some o) ≡ true → o ≡ None
 none_some None h = refl
 none_some (Some f) h = absurd (let z : ◌≡◌ {A = ℕ} 0 1 = cc in omega arith)
 
-pub fitting : (x : Held) → fits x ≡ true → Fits x
-fitting x h =
-    let p = and_parts _ _ h in
-    let q = and_parts _ _ p.0 in
-    record { text = p.1; least = leb-true _ _ q.0; most = leb-true _ _ q.1 }
+-- what a lawful field means stands in its year
+pub field_stands : (e : Entry) (y : ℕ) (f : List ℕ) → InSpan y → kind_lawful e.form y f → stands y (record { entry = e; value = kind_meaning e.form y f }) ≡ true
+field_stands e y f s l =
+    let r = kind_rewrites e.form y f s l in
+    and_from _ _ (ap (λ o. not (is_some o)) ((kind_judged e.form y 0 (written (kind_meaning e.form y f))).clean r.again)) (meaning-itself _ _ r.same)
 
-pub standing : (y : ℕ) (x : Held) → stands y x ≡ true → Stands y x
+-- what stands in a year is the meaning of its writing there, and that is lawful
+pub record Standing (y : ℕ) (x : Held) : Type 0 where
+  pub lawful : kind_lawful x.entry.form y (written x.value)
+  pub means : kind_meaning x.entry.form y (written x.value) ≡ x.value
+
+pub standing : (y : ℕ) (x : Held) → stands y x ≡ true → Standing y x
 standing y x h =
     let p = and_parts _ _ h in
-    let q = and_parts _ _ p.0 in
     record {
-      means = record {
-        lawful = (kind_judged x.entry.form y 0 (written x.value)).stands (none_some _ q.0);
-        same = meaning-same _ _ q.1;
-      };
-      fit = fitting x p.1;
+      lawful = (kind_judged x.entry.form y 0 (written x.value)).stands (none_some _ p.0);
+      means = meaning-same _ _ p.1;
     }
-
-pub stood : (y : ℕ) (x : Held) → Stands y x → stands y x ≡ true
-stood y x s =
-    and_from _ _
-    (and_from _ _ (ap (λ o. not (is_some o)) ((kind_judged x.entry.form y 0 (written x.value)).clean s.means.lawful)) (meaning-itself _ _ s.means.same))
-    (and_from _ _ (and_from _ _ (le-leb _ _ s.fit.least) (le-leb _ _ s.fit.most)) s.fit.text)
 
 -- values of one form that stand in one year are equal where their writings are
 pub same_written : (y : ℕ) (x z : Held) → stands y x ≡ true → stands y z ≡ true → x.entry ≡ z.entry → written x.value ≡ written z.value → x.value ≡ z.value
 same_written y x z s t e w =
-    sym (standing y x s).means.same ∙ ap (λ d. kind_meaning d.form y (written x.value)) e ∙ ap (kind_meaning z.entry.form y) w ∙ (standing y z t).means.same
-
--- A LAWFUL FIELD
-
-counts_from_one : (d s l : ℕ) → T (form_allows form.Count d s l) → s ≡ 1
-counts_from_one d s l t = eqb-true s 1 (and_parts (eqb s 1) (leb l 8) (holds (form_allows form.Count d s l) t)).0
-
--- the writing is as long as the field, or its form is one that a single byte may be a field of
-exact_or_one : (k : FormKind) (d s l n m : ℕ) → T (form_allows k d s l) → (kind_exact k ≡ true → m ≡ n) → s ≤ n → 1 ≤ m → s ≤ m
-exact_or_one form.Text d s l n m t e h o = let q = e refl in omega arith
-exact_or_one form.Digits d s l n m t e h o = let q = e refl in omega arith
-exact_or_one form.Key d s l n m t e h o = let q = e refl in omega arith
-exact_or_one form.Date d s l n m t e h o = let q = e refl in omega arith
-exact_or_one form.Stamp d s l n m t e h o = let q = e refl in omega arith
-exact_or_one form.Measure d s l n m t e h o = let q = e refl in omega arith
-exact_or_one form.Count d s l n m t e h o = let q = counts_from_one d s l t in omega arith
-
--- what a lawful field means stands
-pub field_stands : (y : ℕ) (e : Entry) (f : List ℕ) → InSpan y → kind_lawful e.form y f → e.shortest ≤ length f → length f ≤ e.longest → Stands y (record { entry = e; value = kind_meaning e.form y f })
-field_stands y e f s l least most =
-    let r = kind_rewrites e.form y f s l in
-    let n = kind_lengths e.form y f s l in
-    record {
-      means = record { lawful = r.again; same = r.same };
-      fit = record {
-        text = r.text;
-        least = exact_or_one e.form e.ident.digits e.shortest e.longest (length f) (length (written (kind_meaning e.form y f))) (form_kept e) n.same least n.some;
-        most = (let q = n.short in omega arith);
-      };
-    }
-
--- ANOTHER YEAR
-
--- in another year within whose span the value's date lies
-module _ (y u : ℕ) (was : InSpan y) (now : InSpan u) where
-  -- two digits that mean a year within the span mean it there too
-  century : (f : List ℕ) → 1 < length f → every digit f ≡ true → near u (full_year y (pair f 0)) ≡ true → full_year u (pair f 0) ≡ full_year y (pair f 0)
-  century f l d n = let p = and_parts _ _ n in century_kept y u f was now l d (leb-true _ _ p.0) (leb-true _ _ p.1)
-
-  means_turned : (k : FormKind) (v : Meaning) → outside u v ≡ false → Means k y v → Means k u v
-  means_turned form.Text v o m = record { lawful = m.lawful; same = m.same }
-  means_turned form.Digits v o m = record { lawful = m.lawful; same = m.same }
-  means_turned form.Key v o m = record { lawful = m.lawful; same = m.same }
-  means_turned form.Date v o m =
-      let l = m.lawful in
-      let n = l.long in
-      let r = date_kept y u (written v) (century (written v) (omega arith) l.all (not-false _ (ap (outside u) m.same ∙ o))) l in
-      record { lawful = r.0; same = ap date_means r.1 ∙ m.same }
-  means_turned form.Stamp v o m =
-      let l = m.lawful in
-      let n = l.long in
-      let r = stamp_kept y u (written v) (century (written v) (omega arith) l.all (not-false _ (ap (outside u) m.same ∙ o))) l in
-      record { lawful = r.0; same = ap stamp_means r.1 ∙ m.same }
-  means_turned form.Measure v o m = record { lawful = m.lawful; same = m.same }
-  means_turned form.Count v o m = record { lawful = m.lawful; same = m.same }
-
-  pub stands-turned : (x : Held) → outside u x.value ≡ false → Stands y x → Stands u x
-  stands-turned x o m = record { means = means_turned x.entry.form x.value o m.means; fit = m.fit }
+    sym (standing y x s).means ∙ ap (λ d. kind_meaning d.form y (written x.value)) e ∙ ap (kind_meaning z.entry.form y) w ∙ (standing y z t).means

@@ -4,9 +4,9 @@ mod change;
 pub mod fault;
 mod look;
 pub mod make;
-mod print;
 pub mod row;
 mod scan;
 mod search;
-mod strings;
+#[cfg(test)]
+mod tests;
 mod turn;

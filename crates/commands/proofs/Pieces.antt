@@ -2,8 +2,8 @@
 use Rattle.std.proofs.Common.{◌≡◌, ℕ, false, eqb, ◌⊎◌, List, [], ◌∷◌, None, sym, refl, ap, ◌∙◌, inl, inr, ⊎_elim}
 use Rattle.std.proofs.lemmas.Bool.{eqb-true, and_right, cases_Bool}
 use Rattle.forms.specs.Bytes.{digit, every}
-use Rattle.tokens.specs.Numerals.{number_up_to, only_number}
-use Rattle.tokens.specs.Words.{longer, pieces}
+use Rattle.commands.specs.Numerals.{number_up_to, only_number}
+use Rattle.commands.specs.Words.{longer, pieces}
 
 -- two pieces or more, so that not all bytes are digits
 record Several (bs : List ℕ) : Type 0 where

@@ -1,15 +1,15 @@
 -- The arguments in a tail, one behind each space.
-use Rattle.std.proofs.Common.{◌≡◌, ℕ, ◌<◌, true, false, eqb, List, [], ◌∷◌, ◌++◌, map, length, Some, None, Err, sym, refl, ap, ◌∙◌, ⊎_elim, append-nil, one-add, arith, length-drop}
+use Rattle.std.proofs.Common.{◌≡◌, ℕ, ◌<◌, true, false, eqb, List, [], ◌∷◌, ◌++◌, map, length, Some, None, sym, refl, ap, ◌∙◌, ⊎_elim, append-nil, one-add, arith, length-drop}
 use mathlib.Core.List.{map-append}
 use Rattle.std.proofs.lemmas.Bool.{cases_Bool}
-use Rattle.tokens.specs.Escapes.{before}
-use Rattle.commands.specs.Judgements.{Judged, judged}
-use Rattle.commands.specs.Meanings.{alone, room_of, both, number_and_room}
-use Rattle.tokens.specs.Numerals.{number_up_to, only_number, number_or, all_numbers}
-use Rattle.tokens.specs.Words.{word, tail, behind, pieces, arguments}
-use Rattle.tokens.specs.declared.complaint.Complaint.TheVariants.{BadNumber}
+use Rattle.commands.specs.Escapes.{before}
+use Rattle.commands.specs.Lines.{Request, Meaning, refusal}
+use Rattle.commands.specs.Meanings.{alone}
+use Rattle.commands.specs.Numerals.{number_up_to, only_number, number_or, all_numbers}
+use Rattle.commands.specs.Words.{word, tail, behind, pieces, arguments}
+use Rattle.commands.specs.declared.complaint.Complaint.TheVariants.{BadNumber}
 use Rattle.commands.proofs.Pieces.{only_number_lem}
-use Rattle.tokens.proofs.Unescapes.{onto, onto-before}
+use Rattle.commands.proofs.Unescapes.{onto, onto-before}
 
 -- the first piece stands before the first space, and the others are the arguments behind it
 pieces-word : (bs : List ℕ) → pieces bs ≡ word bs ∷ arguments (tail bs)
@@ -37,18 +37,8 @@ some_argument default most bs l =
     let e = arguments-step bs l in
     ap (only_number most) e ∙ sym (ap (number_or default most) e)
 
-pub not-alone : {A : Type 0} (ask : A) (bs : List ℕ) → 0 < length bs → Err BadNumber ≡ alone ask (arguments bs)
+pub not-alone : (ask : Request) (bs : List ℕ) → 0 < length bs → refusal BadNumber ≡ alone ask (arguments bs)
 not-alone ask bs l = sym (ap (alone ask) (arguments-step bs l))
-
--- what takes nothing, seen through f
-pub judged-alone : {A B : Type 0} (f : A → B) (ask : A) (r : Judged A) (ps : List (List ℕ)) → r ≡ alone ask ps → judged f r ≡ alone (f ask) ps
-judged-alone f ask r [] e = ap (judged f) e
-judged-alone f ask r (p ∷ ps) e = ap (judged f) e
-
--- the number of a symbol stands before the first space, and the buffer's behind it
-pub number_then_room : (bs : List ℕ) → both (number_up_to 18446744073709551615 (word (behind bs))) (room_of (arguments (tail (behind bs)))) ≡ number_and_room (arguments bs)
-number_then_room [] = refl
-number_then_room (b ∷ bs) = sym (ap number_and_room (pieces-word bs))
 
 -- a walk along the arguments, with the numbers of those before
 module _ (most : ℕ) (got bs : List ℕ) where

@@ -1,6 +1,8 @@
-pub mod Calls
-pub mod HallLines
-pub mod Judgements
+pub mod Complaints
+pub mod Escapes
 pub mod Lines
 pub mod Meanings
 pub mod Names
+pub mod Numerals
+pub mod Shows
+pub mod Words

@@ -1,8 +1,12 @@
-// The command language: what a line of input means.
+// The command language: what a line of input means, and how bytes are shown.
 mod arguments;
-mod book;
-mod call;
-pub mod hall;
+pub mod complaint;
+pub mod cut;
+pub mod escape;
 pub mod line;
 mod name;
+pub mod number;
 pub mod parse;
+pub mod show;
+#[cfg(test)]
+mod tests;

@@ -1,10 +1,16 @@
 // Lines, and the commands that they are.
+use crate::complaint::Complaint;
 use forms::kind::FormKind;
-use tokens::complaint::Complaint;
 
-// What a line can ask of a card.
+// What a line can ask for.
 #[derive(Drop)]
-pub enum CardCall {
+pub enum Command {
+    // let the card stand in the year of that number
+    Turn(u16),
+    // judge the bytes as one field of that form
+    Field { kind: FormKind, bytes: Vec<u8> },
+    // judge the elements of the bytes, which are a scan
+    Read(Vec<u8>),
     // put the elements of the bytes, which are a scan, on the card
     Scan(Vec<u8>),
     // put the elements of a symbol with those values on the card
@@ -13,44 +19,18 @@ pub enum CardCall {
     Strike(Vec<u8>),
     // empty the card
     Wipe,
-    // let the card stand in the year of that number
-    Turn(u16),
-}
-
-// The book that a line names.
-#[derive(Drop)]
-pub enum BookChoice {
-    // the GS1 book
-    Gs1,
-    // the hall book that the words spell
-    Hall(Vec<u32>),
-}
-
-// What a line can ask for.
-#[derive(Drop)]
-pub enum Command {
-    // call the card
-    Call(CardCall),
-    // judge the bytes as one field of that form
-    Field { kind: FormKind, bytes: Vec<u8> },
-    // judge the elements of the bytes, which are a scan
-    Read(Vec<u8>),
     // look up the ident of those bytes
     Look(Vec<u8>),
-    // use that book from here on
-    Book(BookChoice),
+    // use the GS1 book from here on
+    Gs1Book,
+    // use the hall book that the words spell from here on
+    HallBook(Vec<u32>),
     // begin a symbol over a buffer of that many bytes
     Begin { room: usize },
     // add the bytes to the open symbol, as one element
     Add(Vec<u8>),
     // seal the open symbol
     Seal,
-    // write the canonical string into a buffer of that many bytes
-    Canonical { room: usize },
-    // tell how many symbols there are
-    Symbols,
-    // write the symbol of that number into a buffer of that many bytes
-    Print { number: u64, room: usize },
 }
 
 // What a line is.

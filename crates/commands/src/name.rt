@@ -1,15 +1,13 @@
 // Names in a line.
 ghost use Rattle.std.specs.Prelude.{◌≡◌, ℕ, List};
-ghost use Rattle.commands.specs.Names.{first_named, form_name, book_name, call_name, command_name, hall_word_name};
+ghost use Rattle.commands.specs.Names.{first_named, form_name, book_name, command_name};
 
-use crate::hall::Hall;
 use forms::kind::FormKind;
 
 // What has a name in a line.
 pub(crate) trait Named: Copy {
     ghost named: { Self → List ℕ };
 
-    // The name.
     fn name(self) -> &'static str
         ensures { result.now ≡ named self };
 }
@@ -62,44 +60,21 @@ impl Named for BookName {
     }
 }
 
-// The words that calls of a card begin with.
+// The words that commands begin with.
 #[derive(Clone, Copy, Debug, PartialEq, Eq)]
-pub(crate) enum CallWord {
+pub(crate) enum CommandWord {
     Turn,
+    Field,
+    Read,
     Scan,
     Take,
     Strike,
     Wipe,
-}
-
-impl Named for CallWord {
-    ghost named = { call_name };
-
-    fn name(self) -> &'static str {
-        match self {
-            CallWord::Turn => "turn",
-            CallWord::Scan => "scan",
-            CallWord::Take => "take",
-            CallWord::Strike => "strike",
-            CallWord::Wipe => "wipe",
-        }
-    }
-}
-
-// The words that commands begin with.
-#[derive(Clone, Copy, Debug, PartialEq, Eq)]
-pub(crate) enum CommandWord {
-    Call(CallWord),
-    Field,
-    Read,
     Look,
     Book,
     Begin,
     Add,
     Seal,
-    Canonical,
-    Symbols,
-    Print,
 }
 
 impl Named for CommandWord {
@@ -107,45 +82,29 @@ impl Named for CommandWord {
 
     fn name(self) -> &'static str {
         match self {
-            CommandWord::Call(word) => word.name(),
+            CommandWord::Turn => "turn",
             CommandWord::Field => "field",
             CommandWord::Read => "read",
+            CommandWord::Scan => "scan",
+            CommandWord::Take => "take",
+            CommandWord::Strike => "strike",
+            CommandWord::Wipe => "wipe",
             CommandWord::Look => "look",
             CommandWord::Book => "book",
             CommandWord::Begin => "begin",
             CommandWord::Add => "add",
             CommandWord::Seal => "seal",
-            CommandWord::Canonical => "canonical",
-            CommandWord::Symbols => "symbols",
-            CommandWord::Print => "print",
         }
     }
 }
 
-// The words that lines for two halls begin with.
-#[derive(Clone, Copy, Debug, PartialEq, Eq)]
-pub(crate) enum HallWord {
-    Hall(Hall),
-    Book,
-}
-
-impl Named for HallWord {
-    ghost named = { hall_word_name };
-
-    fn name(self) -> &'static str {
-        match self {
-            HallWord::Hall(Hall::First) => "1",
-            HallWord::Hall(Hall::Second) => "2",
-            HallWord::Book => "book",
-        }
-    }
-}
-
-// What bytes are given for, but for calls of a card.
+// What bytes are given for.
 #[derive(Clone, Copy)]
 pub(crate) enum Purpose {
     Field(FormKind),
     Read,
+    Scan,
+    Strike,
     Look,
     Add,
 }

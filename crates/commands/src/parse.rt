@@ -1,22 +1,18 @@
 // From the bytes of a line to its command.
 ghost use Rattle.std.specs.Prelude.{◌≡◌, IfOk};
-ghost use Rattle.commands.specs.Judgements.{judged};
-ghost use Rattle.commands.specs.Lines.{call, book, begin, canonical, command_request, line_meaning};
-ghost use Rattle.commands.specs.Meanings.{alone, call_meant, book_meant, room_of, room_meant, print_meant, asked, bytes_meant, field_meant, command_meant, meant};
+ghost use Rattle.commands.specs.Lines.{command_request, line_meaning};
+ghost use Rattle.commands.specs.Meanings.{alone, asked, turn_meant, begin_meant, bytes_meant, field_meant, hall_meant, take_meant, book_meant, command_meant, meant};
 ghost use Rattle.commands.specs.Names.{command_named};
-ghost use Rattle.tokens.specs.Words.{arguments};
+ghost use Rattle.commands.specs.Words.{arguments};
 
-use crate::arguments::{alone, number_or};
-use crate::book::book_choice;
-use crate::call::card_call;
+use crate::arguments::{all_numbers, number_or, only_number};
+use crate::complaint::Complaint;
+use crate::cut::{behind, split_word};
+use crate::escape::unescape;
 use crate::line::{Command, Line};
-use crate::name::{CallWord, CommandWord, Purpose, find};
+use crate::name::{BookName, CommandWord, Purpose, find};
 use forms::kind::FormKind;
 use std::alloc::{AllocError, Global};
-use tokens::complaint::Complaint;
-use tokens::cut::{behind, split_word};
-use tokens::escape::unescape;
-use tokens::number::number;
 
 const FORMS: [FormKind; 7] = [
     FormKind::Text,
@@ -28,72 +24,53 @@ const FORMS: [FormKind; 7] = [
     FormKind::Count,
 ];
 
-const COMMANDS: [CommandWord; 15] = [
-    CommandWord::Call(CallWord::Turn),
-    CommandWord::Call(CallWord::Scan),
-    CommandWord::Call(CallWord::Take),
-    CommandWord::Call(CallWord::Strike),
-    CommandWord::Call(CallWord::Wipe),
+const BOOKS: [BookName; 2] = [BookName::Gs1, BookName::Hall];
+
+const COMMANDS: [CommandWord; 12] = [
+    CommandWord::Turn,
     CommandWord::Field,
     CommandWord::Read,
+    CommandWord::Scan,
+    CommandWord::Take,
+    CommandWord::Strike,
+    CommandWord::Wipe,
     CommandWord::Look,
     CommandWord::Book,
     CommandWord::Begin,
     CommandWord::Add,
     CommandWord::Seal,
-    CommandWord::Canonical,
-    CommandWord::Symbols,
-    CommandWord::Print,
 ];
 
 // A command that takes nothing.
-fn alone_command(command: Command, tail: &[u8]) -> Result<Command, Complaint>
-    ensures { judged command_request result ≡ alone (command_request command) (arguments tail.now) }
+fn alone(command: Command, tail: &[u8]) -> Line
+    ensures { line_meaning result ≡ alone (command_request command) (arguments tail.now) }
 {
-    alone(command, tail)
+    if tail.is_empty() {
+        Line::Command(command)
+    } else {
+        Line::Complaint(Complaint::BadNumber)
+    }
 }
 
-// The bytes of a buffer: at most one number, 4096 at most, and 4096 where none is given.
-fn room_given(tail: &[u8]) -> Option<usize>
-    ensures { result ≡ room_of (arguments tail.now) }
+// The command `turn`: one number, of 16 bits.
+fn turn(tail: &[u8]) -> Line
+    ensures { line_meaning result ≡ turn_meant tail.now }
+{
+    match only_number(tail, 65535) {
+        Some(year) => Line::Command(Command::Turn(year as u16)),
+        None => Line::Complaint(Complaint::BadNumber),
+    }
+}
+
+// The command `begin`: the bytes of its buffer, 4096 at most, and 4096 where no number is given.
+fn begin(tail: &[u8]) -> Line
+    ensures { line_meaning result ≡ begin_meant tail.now }
 {
     match number_or(tail, 4096, 4096) {
-        Some(room) => Some(room as usize),
-        None => None,
-    }
-}
-
-// The command `begin`: the bytes of its buffer.
-fn begin_command(tail: &[u8]) -> Result<Command, Complaint>
-    ensures { judged command_request result ≡ room_meant begin tail.now }
-{
-    match room_given(tail) {
-        Some(room) => Ok(Command::Begin { room }),
-        None => Err(Complaint::BadNumber),
-    }
-}
-
-// The command `canonical`: the bytes of its buffer.
-fn canonical_command(tail: &[u8]) -> Result<Command, Complaint>
-    ensures { judged command_request result ≡ room_meant canonical tail.now }
-{
-    match room_given(tail) {
-        Some(room) => Ok(Command::Canonical { room }),
-        None => Err(Complaint::BadNumber),
-    }
-}
-
-// The command `print`: the number of a symbol, of 64 bits, and the bytes of its buffer.
-fn print_command(tail: &[u8]) -> Result<Command, Complaint>
-    ensures { judged command_request result ≡ print_meant tail.now }
-{
-    let (first, rest) = split_word(behind(tail));
-    let Some(number) = number(first, u64::MAX) else {
-        return Err(Complaint::BadNumber);
-    };
-    match room_given(rest) {
-        Some(room) => Ok(Command::Print { number, room }),
-        None => Err(Complaint::BadNumber),
+        Some(room) => Line::Command(Command::Begin {
+            room: room as usize,
+        }),
+        None => Line::Complaint(Complaint::BadNumber),
     }
 }
 
@@ -104,81 +81,84 @@ fn ask(purpose: Purpose, bytes: Vec<u8>) -> Command
     match purpose {
         Purpose::Field(kind) => Command::Field { kind, bytes },
         Purpose::Read => Command::Read(bytes),
+        Purpose::Scan => Command::Scan(bytes),
+        Purpose::Strike => Command::Strike(bytes),
         Purpose::Look => Command::Look(bytes),
         Purpose::Add => Command::Add(bytes),
     }
 }
 
 // A command that takes bytes, with that writing of them.
-fn with_bytes(
-    heap: Global,
-    purpose: Purpose,
-    writing: &[u8],
-) -> Result<Result<Command, Complaint>, AllocError>
-    ensures { IfOk result (λ got. judged command_request got ≡ bytes_meant (asked purpose) writing.now) }
+fn with_bytes(heap: Global, purpose: Purpose, writing: &[u8]) -> Result<Line, AllocError>
+    ensures { IfOk result (λ line. line_meaning line ≡ bytes_meant purpose writing.now) }
 {
     match unescape(heap, writing)? {
-        Ok(bytes) => Ok(Ok(ask(purpose, bytes))),
-        Err(complaint) => Ok(Err(complaint)),
+        Ok(bytes) => Ok(Line::Command(ask(purpose, bytes))),
+        Err(complaint) => Ok(Line::Complaint(complaint)),
     }
 }
 
 // The command `field`: the name of a form, and bytes.
-fn field_command(heap: Global, tail: &[u8]) -> Result<Result<Command, Complaint>, AllocError>
-    ensures { IfOk result (λ got. judged command_request got ≡ field_meant tail.now) }
+fn field(heap: Global, tail: &[u8]) -> Result<Line, AllocError>
+    ensures { IfOk result (λ line. line_meaning line ≡ field_meant tail.now) }
 {
     let (name, args) = split_word(behind(tail));
     match find(&FORMS, name) {
         Some(kind) => with_bytes(heap, Purpose::Field(kind), behind(args)),
-        None => Ok(Err(Complaint::UnknownCommand)),
+        None => Ok(Line::Complaint(Complaint::UnknownCommand)),
     }
 }
 
-// A call of the card, as a command.
-fn call_command(
-    heap: Global,
-    word: CallWord,
-    tail: &[u8],
-) -> Result<Result<Command, Complaint>, AllocError>
-    ensures { IfOk result (λ got. judged command_request got ≡ judged call (call_meant word tail.now)) }
+// The words of a hall's book, each of 32 bits.
+fn hall(heap: Global, tail: &[u8]) -> Result<Line, AllocError>
+    ensures { IfOk result (λ line. line_meaning line ≡ hall_meant tail.now) }
 {
-    match card_call(heap, word, tail)? {
-        Ok(call) => Ok(Ok(Command::Call(call))),
-        Err(complaint) => Ok(Err(complaint)),
+    match all_numbers(heap, tail)? {
+        Some(words) => Ok(Line::Command(Command::HallBook(words))),
+        None => Ok(Line::Complaint(Complaint::BadNumber)),
+    }
+}
+
+// The command `take`: a symbol's values, each of 8 bits.
+fn take(heap: Global, tail: &[u8]) -> Result<Line, AllocError>
+    ensures { IfOk result (λ line. line_meaning line ≡ take_meant tail.now) }
+{
+    match all_numbers(heap, tail)? {
+        Some(values) => Ok(Line::Command(Command::Take(values))),
+        None => Ok(Line::Complaint(Complaint::BadNumber)),
     }
 }
 
 // The command `book`: the name of a book, and what belongs to it.
-fn book_command(heap: Global, tail: &[u8]) -> Result<Result<Command, Complaint>, AllocError>
-    ensures { IfOk result (λ got. judged command_request got ≡ judged book (book_meant tail.now)) }
+fn book(heap: Global, tail: &[u8]) -> Result<Line, AllocError>
+    ensures { IfOk result (λ line. line_meaning line ≡ book_meant tail.now) }
 {
-    match book_choice(heap, tail)? {
-        Ok(book) => Ok(Ok(Command::Book(book))),
-        Err(complaint) => Ok(Err(complaint)),
+    let (name, args) = split_word(behind(tail));
+    match find(&BOOKS, name) {
+        Some(BookName::Gs1) => Ok(alone(Command::Gs1Book, args)),
+        Some(BookName::Hall) => hall(heap, args),
+        None => Ok(Line::Complaint(Complaint::UnknownCommand)),
     }
 }
 
 // The command of that word with that tail.
-fn command_of(
-    heap: Global,
-    word: &[u8],
-    tail: &[u8],
-) -> Result<Result<Command, Complaint>, AllocError>
-    ensures { IfOk result (λ got. judged command_request got ≡ command_meant (command_named word.now) tail.now) }
+fn command_of(heap: Global, word: &[u8], tail: &[u8]) -> Result<Line, AllocError>
+    ensures { IfOk result (λ line. line_meaning line ≡ command_meant (command_named word.now) tail.now) }
 {
     match find(&COMMANDS, word) {
-        Some(CommandWord::Call(call)) => call_command(heap, call, tail),
-        Some(CommandWord::Field) => field_command(heap, tail),
+        Some(CommandWord::Turn) => Ok(turn(tail)),
+        Some(CommandWord::Field) => field(heap, tail),
         Some(CommandWord::Read) => with_bytes(heap, Purpose::Read, behind(tail)),
+        Some(CommandWord::Scan) => with_bytes(heap, Purpose::Scan, behind(tail)),
+        Some(CommandWord::Take) => take(heap, tail),
+        Some(CommandWord::Strike) => with_bytes(heap, Purpose::Strike, behind(tail)),
+        Some(CommandWord::Wipe) => Ok(alone(Command::Wipe, tail)),
         Some(CommandWord::Look) => with_bytes(heap, Purpose::Look, behind(tail)),
-        Some(CommandWord::Book) => book_command(heap, tail),
-        Some(CommandWord::Begin) => Ok(begin_command(tail)),
+        Some(CommandWord::Book) => book(heap, tail),
+        Some(CommandWord::Begin) => Ok(begin(tail)),
         Some(CommandWord::Add) => with_bytes(heap, Purpose::Add, behind(tail)),
-        Some(CommandWord::Seal) => Ok(alone_command(Command::Seal, tail)),
-        Some(CommandWord::Canonical) => Ok(canonical_command(tail)),
-        Some(CommandWord::Symbols) => Ok(alone_command(Command::Symbols, tail)),
-        Some(CommandWord::Print) => Ok(print_command(tail)),
-        None => Ok(Err(Complaint::UnknownCommand)),
+        Some(CommandWord::Seal) => Ok(alone(Command::Seal, tail)),
+        None => Ok(Line::Complaint(Complaint::UnknownCommand)),
     }
 }
 
@@ -191,8 +171,5 @@ pub fn parse(heap: Global, line: &[u8]) -> Result<Line, AllocError>
         return Ok(Line::Silent);
     }
     let (word, tail) = split_word(line);
-    match command_of(heap, word, tail)? {
-        Ok(command) => Ok(Line::Command(command)),
-        Err(complaint) => Ok(Line::Complaint(complaint)),
-    }
+    command_of(heap, word, tail)
 }

@@ -107,3 +107,7 @@ kind_lengths Date y f s l = as_long _ _ (sym l.long) (omega (arith, l.long))
 kind_lengths Stamp y f s l = as_long _ _ (sym l.long) (omega (arith, l.long))
 kind_lengths Measure y f s l = as_long _ _ (sym l.long) (omega (arith, l.long))
 kind_lengths Count y f s l = count_lengths y f l
+
+-- two lawful fields mean the same where their writings are equal
+pub kind_apart : (k : FormKind) (y : ℕ) (f g : List ℕ) → InSpan y → kind_lawful k y f → kind_lawful k y g → rewriting k y f ≡ rewriting k y g → kind_meaning k y f ≡ kind_meaning k y g
+kind_apart k y f g s l m e = sym (kind_rewrites k y f s l).same ∙ ap (kind_meaning k y) e ∙ (kind_rewrites k y g s m).same

@@ -19,6 +19,14 @@ every-whole p (x ∷ xs) h =
     let P : Bool → Type 0 = λ b. length (x ∷ xs) ≤ cond b (1 + prefix_len p xs) 0 → (b && every p xs) ≡ true in
     elim (p x) as P [ true ↦ (λ k. every-whole p xs (omega arith)) | false ↦ (λ k. absurd (omega arith)) ] h
 
+-- the fault that comes first is the answer
+pub refused_first : {V : Type 0} (a b : Option FieldFault) (e : FieldFault) (v : V) → a ≡ Some e → Err e ≡ answered (first_of a b) v
+refused_first a b e v h = rw h refl
+
+-- where the first test passes, the second is the answer
+pub refused_next : {V : Type 0} (a : Option FieldFault) (b : Bool) (e : FieldFault) (v : V) → a ≡ None → b ≡ false → Err e ≡ answered (first_of a (unless b e)) v
+refused_next a b e v h k = rw (h, k) refl
+
 pub answered-both : {V : Type 0} (a : Option FieldFault) (b : Bool) (e : FieldFault) (v w : V) → a ≡ None → b ≡ true → w ≡ v → Ok w ≡ answered (first_of a (unless b e)) v
 answered-both a b e v w h k s = rw (h, k) (ap Ok s)
 

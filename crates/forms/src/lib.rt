@@ -11,6 +11,8 @@ pub mod kind;
 pub mod measure;
 pub mod numbers;
 pub mod stamp;
+#[cfg(test)]
+mod tests;
 pub mod text;
 pub mod value;
 pub mod year;

@@ -1,12 +1,12 @@
 -- The runs of a list: one behind the other they are the list, and none has more bytes than a symbol holds.
-use Rattle.std.proofs.Common.{◌≡◌, ℕ, ◌≤◌, leb, ◌⊎◌, List, [], ◌∷◌, ◌++◌, map, length, sym, refl, ap, ◌∙◌, subst, inl, inr, ⊎_elim, append_assoc, arith, length-append}
+use Rattle.std.proofs.Common.{◌≡◌, ℕ, zero, suc, ◌<◌, ◌≤◌, leb, ◌⊎◌, List, [], ◌∷◌, ◌++◌, length, get_or, sym, refl, ap, ◌∙◌, subst, inl, inr, ⊎_elim, append_assoc, arith, length-append}
 use Rattle.std.proofs.lemmas.Bool.{cond_both, leb-true}
 use Rattle.books.specs.Entries.{In}
 use Rattle.cards.specs.Tallies.{Held}
 use Rattle.cards.specs.Strings.{piece, spelled, fill, runs}
-use Rattle.cards.proofs.Pieces.{piece-long}
-use Rattle.cards.proofs.Standing.{Fits}
 use Rattle.history.proofs.Sorts.{Within, Rising}
+use Rattle.history.proofs.Stands.{Stands}
+use Rattle.history.proofs.Spellings.{piece-long}
 
 -- LISTS OF LISTS
 
@@ -32,37 +32,23 @@ module _ {A : Type 0} where
   flat_has [] xs i a j = absurd i
   flat_has (ys ∷ yss) xs i a j = ⊎_elim (λ e. in_left ys (flat yss) a (subst (In a) e j)) (λ k. in_right ys (flat yss) a (flat_has yss xs k a j)) i
 
-  -- a list that has it, among others
-  pub record Among (a : A) (xss : List (List A)) : Type 0 where
-    pub list : List A
-    pub among : In list xss
-    pub has : In a list
+  -- the number of a list that has it
+  pub record Numbered (a : A) (xss : List (List A)) : Type 0 where
+    pub number : ℕ
+    pub below : number < length xss
+    pub there : In a (get_or xss number [])
 
-  pub flat-from : (xss : List (List A)) (a : A) → In a (flat xss) → Among a xss
-  flat-from [] a i = absurd i
-  flat-from (xs ∷ xss) a i =
-      ⊎_elim (λ j. record { list = xs; among = inl refl; has = j })
-      (λ j. let n = flat-from xss a j in record { list = n.list; among = inr n.among; has = n.has })
+  pub flat-at : (xss : List (List A)) (a : A) → In a (flat xss) → Numbered a xss
+  flat-at [] a i = absurd i
+  flat-at (xs ∷ xss) a i =
+      ⊎_elim (λ j. record { number = 0; below = omega arith; there = j })
+      (λ j. let n = flat-at xss a j in let b = n.below in record { number = suc n.number; below = omega arith; there = n.there })
       (in_cases xs (flat xss) a i)
 
--- MAPPED LISTS
-
-module _ {A B : Type 0} (f : A → B) where
-  pub map-has : (xs : List A) (a : A) → In a xs → In (f a) (map f xs)
-  map-has [] a i = absurd i
-  map-has (x ∷ xs) a i = ⊎_elim (λ e. inl (ap f e)) (λ j. inr (map-has xs a j)) i
-
-  -- what it was mapped from
-  pub record From (b : B) (xs : List A) : Type 0 where
-    pub source : A
-    pub among : In source xs
-    pub is : b ≡ f source
-
-  pub map-from : (xs : List A) (b : B) → In b (map f xs) → From b xs
-  map-from [] b i = absurd i
-  map-from (x ∷ xs) b i =
-      ⊎_elim (λ e. record { source = x; among = inl refl; is = e })
-      (λ j. let n = map-from xs b j in record { source = n.source; among = inr n.among; is = n.is }) i
+  pub in_at : (xs : List A) (k : ℕ) (d : A) → k < length xs → In (get_or xs k d) xs
+  in_at [] k d l = absurd (omega arith)
+  in_at (x ∷ xs) zero d l = inl refl
+  in_at (x ∷ xs) (suc k) d l = inr (in_at xs k d (omega arith))
 
 rising-left : (xs ys : List Held) → Rising (xs ++ ys) → Rising xs
 rising-left [] ys r = tt
@@ -98,8 +84,8 @@ pub runs-rising : (hs : List Held) (run : List Held) → In run (runs hs) → Ri
 runs-rising hs run i r = flat-rising (runs hs) run i (subst Rising (sym (runs-flat hs)) r)
 
 -- a single element has at most 4 digits of ident and 30 bytes of field
-one_short : (x : Held) → Fits x → length (spelled (x ∷ [])) ≤ 48
-one_short x s =
+one_short : (y : ℕ) (x : Held) → Stands y x → length (spelled (x ∷ [])) ≤ 48
+one_short y x s =
     let a = length-append (piece x) [] in
     let b = piece-long x in
     let c = x.entry.ident.most in
@@ -107,15 +93,15 @@ one_short x s =
     let e = s.most in
     omega arith
 
-fill-short : (run xs : List Held) → length (spelled run) ≤ 48 → ((x : Held) → In x xs → Fits x) → (r : List Held) → In r (fill run xs) → length (spelled r) ≤ 48
-fill-short run [] l h r i = ⊎_elim (λ e. subst (λ q. length (spelled q) ≤ 48) (sym e) l) (λ j. absurd j) i
-fill-short run (x ∷ xs) l h r i =
+fill-short : (y : ℕ) (run xs : List Held) → length (spelled run) ≤ 48 → ((x : Held) → In x xs → Stands y x) → (r : List Held) → In r (fill run xs) → length (spelled r) ≤ 48
+fill-short y run [] l h r i = ⊎_elim (λ e. subst (λ q. length (spelled q) ≤ 48) (sym e) l) (λ j. absurd j) i
+fill-short y run (x ∷ xs) l h r i =
     cond_both (leb (length (spelled (run ++ x ∷ []))) 48) (fill (run ++ x ∷ []) xs) (run ∷ fill (x ∷ []) xs) (λ q. In r q → length (spelled r) ≤ 48)
-    (λ p. fill-short (run ++ x ∷ []) xs (leb-true _ 48 p) (λ z j. h z (inr j)) r)
-    (λ _. ⊎_elim (λ e. subst (λ q. length (spelled q) ≤ 48) (sym e) l) (fill-short (x ∷ []) xs (one_short x (h x (inl refl))) (λ z j. h z (inr j)) r))
+    (λ p. fill-short y (run ++ x ∷ []) xs (leb-true _ 48 p) (λ z j. h z (inr j)) r)
+    (λ _. ⊎_elim (λ e. subst (λ q. length (spelled q) ≤ 48) (sym e) l) (fill-short y (x ∷ []) xs (one_short y x (h x (inl refl))) (λ z j. h z (inr j)) r))
     i
 
 -- each run fits a symbol
-pub runs-short : (hs : List Held) → ((x : Held) → In x hs → Fits x) → (r : List Held) → In r (runs hs) → length (spelled r) ≤ 48
-runs-short [] h r i = absurd i
-runs-short (x ∷ xs) h r i = fill-short (x ∷ []) xs (one_short x (h x (inl refl))) (λ z j. h z (inr j)) r i
+pub runs-short : (y : ℕ) (hs : List Held) → ((x : Held) → In x hs → Stands y x) → (r : List Held) → In r (runs hs) → length (spelled r) ≤ 48
+runs-short y [] h r i = absurd i
+runs-short y (x ∷ xs) h r i = fill-short y (x ∷ []) xs (one_short y x (h x (inl refl))) (λ z j. h z (inr j)) r i

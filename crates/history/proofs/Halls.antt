@@ -1,26 +1,28 @@
 -- The law of the halls.
-use Rattle.std.proofs.Common.{◌≡◌, ℕ, ◌≤◌, true, ◌&&◌, T, List, [], ◌∷◌, ◌++◌, map, length, is_some, Some, Ok, Err, Result, sym, refl, ap, ◌∙◌, subst, inl, inr, ⊎_elim}
+use Rattle.std.proofs.Common.{◌≡◌, ℕ, ◌<◌, ◌≤◌, true, ◌&&◌, T, List, [], ◌∷◌, ◌++◌, length, get_or, is_some, Some, Ok, Err, Result, sym, refl, ap, ◌∙◌, subst, inl, inr, ⊎_elim}
+use Rattle.std.proofs.lemmas.List.{get_or-map, length-map}
 use Rattle.books.specs.Entries.{In, all_lawful, prefix_free}
 use Rattle.books.specs.declared.entry.Entry.{Entry}
 use Rattle.books.proofs.Finds.{one_entry}
 use Rattle.scans.specs.Elements.{mark}
+use Rattle.scans.specs.declared.fault.ScanFault.{ScanFault}
 use Rattle.cards.specs.Tallies.{Held, Tally, Put, blank, ident, look}
 use Rattle.cards.specs.Outcomes.{scan_outcome, in_symbol, take_data, take_outcome}
 use Rattle.cards.specs.Strings.{spelled, canonical, runs, symbol_of, symbols}
-use Rattle.cards.proofs.Pieces.{symbol_read}
-use Rattle.cards.proofs.Standing.{Fits}
 use Rattle.history.specs.Requests.{Request, take, holding, leaves, answer, or_kept, after, run, tally_of, accepted, MeansSame}
-use Rattle.history.specs.Laws.{FiledAlike, Printed, Relabelled, LawOfTheHalls, ReadsBackAnywhere}
+use Rattle.history.specs.Laws.{FiledAlike, takes, Numbers, Relabelled, LawOfTheHalls, ReadsBackAnywhere, HallsStand}
 use Rattle.history.proofs.Sorts.{Within, rising-same, rising-one}
 use Rattle.history.proofs.Looks.{look-has, look_is}
+use Rattle.history.proofs.Stands.{Stands}
 use Rattle.history.proofs.Regulars.{Regular, Sound, blank-regular, part_regular, tally-sound}
 use Rattle.history.proofs.Rescans.{overlap-same, scans_in, scans_whole}
-use Rattle.history.proofs.Fills.{runs-flat, runs-within, runs-rising, runs-short, flat-from, map-has, map-from}
+use Rattle.history.proofs.Pieces.{symbol_read}
+use Rattle.history.proofs.Fills.{runs-flat, runs-within, runs-rising, runs-short, flat-at, in_at}
 
 -- FILED ALIKE
 
 -- what a scan leaves on a card
-abbrev held_of : {F : Type 0} → Result Put F → List Held
+abbrev held_of : Result Put ScanFault → List Held
 held_of (Ok q) = q.held
 held_of (Err e) = []
 
@@ -56,15 +58,15 @@ module _ (es : List Entry) (all : T (all_lawful es)) (free : T (prefix_free es))
   -- A SYMBOL IS TAKEN
 
   -- the symbol of a run is taken as its elements are scanned
-  take-scans : (u : Tally) (xs : List Held) (q : Put) → ((x : Held) → In x xs → Fits x) → length (spelled xs) ≤ 48
+  take-scans : (y : ℕ) (u : Tally) (xs : List Held) (q : Put) → ((x : Held) → In x xs → Stands y x) → length (spelled xs) ≤ 48
       → scan_outcome es u (mark ++ spelled xs) ≡ Ok q → take_outcome es u (symbol_of xs) ≡ Ok q
-  take-scans u xs q h l e = ap (take_data es u) (symbol_read xs h l) ∙ ap in_symbol e
+  take-scans y u xs q h l e = ap (take_data es u) (symbol_read y xs h l) ∙ ap in_symbol e
 
   -- a run of a regular list is read back from its symbol, on an empty card
   run-whole : (y : ℕ) (hs xs : List Held) → Regular es y hs → In xs (runs hs) → take_outcome es (blank y) (symbol_of xs) ≡ Ok (record { new = length xs; held = xs })
   run-whole y hs xs R i =
       let w = runs-within hs xs i in
-      take-scans (blank y) xs (record { new = length xs; held = xs }) (λ x j. (R.stands x (w x j)).fit) (runs-short hs (λ x j. (R.stands x j).fit) xs i)
+      take-scans y (blank y) xs (record { new = length xs; held = xs }) (λ x j. R.stands x (w x j)) (runs-short y hs R.stands xs i)
       (scans_whole es all free y xs (part_regular es y xs hs R (runs-rising hs xs i R.rising) w))
 
   pub reads_back : (y : ℕ) (hs : List Held) → Regular es y hs
@@ -78,76 +80,72 @@ module _ (es : List Entry) (all : T (all_lawful es)) (free : T (prefix_free es))
     abbrev having : List Held → Tally
     having us = record { year = t.year; held = us }
 
-    -- runs with the same symbol are the same
-    one_run : (xs zs : List Held) → In xs (runs t.held) → In zs (runs t.held) → symbol_of xs ≡ symbol_of zs → xs ≡ zs
-    one_run xs zs i j e =
-        ap held_of (sym (run-whole t.year t.held xs R i) ∙ ap (take_outcome es (blank t.year)) e ∙ run-whole t.year t.held zs R j)
-
     -- one symbol of t, taken on a part of t
-    record TakesOne (us : List Held) (v : List ℕ) : Type 0 where
+    record TakesOne (us : List Held) (k : ℕ) : Type 0 where
       got : List Held
-      is : answer es (having us) (take v) ≡ Some (having got)
+      is : answer es (having us) (take (get_or (symbols t) k [])) ≡ Some (having got)
       regular : Regular es t.year got
       within : Within got t.held
       old : Within us got
-      new : (xs : List Held) → In xs (runs t.held) → v ≡ symbol_of xs → Within xs got
+      new : Within (get_or (runs t.held) k []) got
 
-    take-one : (us : List Held) (v : List ℕ) → Regular es t.year us → Within us t.held → In v (symbols t) → TakesOne us v
-    take-one us v U s i =
-        let m = map-from symbol_of (runs t.held) v i in
-        let w = runs-within t.held m.source m.among in
-        let r = scans_in es all free t.year t.held R us m.source U s w in
+    take-one : (us : List Held) (k : ℕ) → Regular es t.year us → Within us t.held → k < length (symbols t) → TakesOne us k
+    take-one us k U s l =
+        let l' : k < length (runs t.held) = subst (λ n. k < n) (length-map (runs t.held) symbol_of) l in
+        let i = in_at (runs t.held) k [] l' in
+        let w = runs-within t.held (get_or (runs t.held) k []) i in
+        let r = scans_in es all free t.year t.held R us (get_or (runs t.held) k []) U s w in
         let J = r.joined in
         record {
           got = r.got.held;
           is =
-              ap (λ x. answer es (having us) (take x)) m.is
+              ap (λ v. answer es (having us) (take v)) (get_or-map symbol_of (runs t.held) k [] [] l')
               ∙ ap (leaves (λ (q : Put). holding (having us) q.held))
-              (take-scans (having us) m.source r.got (λ x j. (R.stands x (w x j)).fit) (runs-short t.held (λ x j. (R.stands x j).fit) m.source m.among) r.is);
+              (take-scans t.year (having us) (get_or (runs t.held) k []) r.got (λ x j. R.stands x (w x j)) (runs-short t.year t.held R.stands (get_or (runs t.held) k []) i) r.is);
           regular = J.regular;
           within = J.within;
           old = J.old;
-          new = λ xs j e. subst (λ zs. Within zs r.got.held) (one_run m.source xs m.among j (sym m.is ∙ e)) J.new;
+          new = J.new;
         }
 
     -- several, one after the other
-    record TakesAll (us : List Held) (vs : List (List ℕ)) : Type 0 where
+    record TakesAll (us : List Held) (ks : List ℕ) : Type 0 where
       got : List Held
-      is : run es (having us) (map take vs) ≡ having got
-      accept : accepted es (having us) (map take vs) ≡ true
+      is : run es (having us) (takes t ks) ≡ having got
+      accept : accepted es (having us) (takes t ks) ≡ true
       regular : Regular es t.year got
       within : Within got t.held
       old : Within us got
-      new : (xs : List Held) → In xs (runs t.held) → In (symbol_of xs) vs → Within xs got
+      new : (k : ℕ) → In k ks → Within (get_or (runs t.held) k []) got
 
-    take_all : (vs : List (List ℕ)) (us : List Held) → Regular es t.year us → Within us t.held → ((v : List ℕ) → In v vs → In v (symbols t)) → TakesAll us vs
+    take_all : (ks : List ℕ) (us : List Held) → Regular es t.year us → Within us t.held → ((k : ℕ) → In k ks → k < length (symbols t)) → TakesAll us ks
     take_all [] us U s b =
-        record { got = us; is = refl; accept = refl; regular = U; within = s; old = λ z j. j; new = λ xs i j. absurd j }
-    take_all (v ∷ vs) us U s b =
-        let o = take-one us v U s (b v (inl refl)) in
-        let m = take_all vs o.got o.regular o.within (λ x i. b x (inr i)) in
+        record { got = us; is = refl; accept = refl; regular = U; within = s; old = λ z j. j; new = λ k j. absurd j }
+    take_all (k ∷ ks) us U s b =
+        let o = take-one us k U s (b k (inl refl)) in
+        let m = take_all ks o.got o.regular o.within (λ j i. b j (inr i)) in
         record {
           got = m.got;
-          is = ap (λ a. run es (or_kept (having us) a) (map take vs)) o.is ∙ m.is;
-          accept = ap (λ a. is_some a && accepted es (or_kept (having us) a) (map take vs)) o.is ∙ m.accept;
+          is = ap (λ a. run es (or_kept (having us) a) (takes t ks)) o.is ∙ m.is;
+          accept = ap (λ a. is_some a && accepted es (or_kept (having us) a) (takes t ks)) o.is ∙ m.accept;
           regular = m.regular;
           within = m.within;
           old = λ z j. m.old z (o.old z j);
-          new = λ xs i j. ⊎_elim (λ e z k. m.old z (o.new xs i (sym e) z k)) (m.new xs i) j;
+          new = λ j i z c. ⊎_elim (λ e. m.old z (o.new z (subst (λ n. In z (get_or (runs t.held) n [])) e c))) (λ i'. m.new j i' z c) i;
         }
 
     -- all symbols of t, in any order, on an empty card of its year
-    record Rejoins (vs : List (List ℕ)) : Type 0 where
-      is : run es (blank t.year) (map take vs) ≡ t
-      accept : accepted es (blank t.year) (map take vs) ≡ true
+    record Rejoins (ks : List ℕ) : Type 0 where
+      is : run es (blank t.year) (takes t ks) ≡ t
+      accept : accepted es (blank t.year) (takes t ks) ≡ true
 
-    rejoins : (vs : List (List ℕ)) → Printed t vs → Rejoins vs
-    rejoins vs n =
-        let m = take_all vs [] (blank-regular es t.year) (λ z i. absurd i) n.only in
+    rejoins : (ks : List ℕ) → Numbers t ks → Rejoins ks
+    rejoins ks n =
+        let m = take_all ks [] (blank-regular es t.year) (λ z i. absurd i) n.below in
         let every : Within t.held m.got =
         λ x i.
-        let f = flat-from (runs t.held) x (subst (In x) (sym (runs-flat t.held)) i) in
-        m.new f.list f.among (n.every (symbol_of f.list) (map-has symbol_of (runs t.held) f.list f.among)) x f.has in
+        let f = flat-at (runs t.held) x (subst (In x) (sym (runs-flat t.held)) i) in
+        m.new f.number (n.every f.number (subst (λ c. f.number < c) (sym (length-map (runs t.held) symbol_of)) f.below)) x f.there in
         let e : m.got ≡ t.held = rising-same m.got t.held m.regular.rising R.rising m.within every in
         record { is = m.is ∙ ap having e; accept = m.accept }
 
@@ -156,13 +154,13 @@ module _ (es : List Entry) (all : T (all_lawful es)) (free : T (prefix_free es))
   run-append t (r ∷ p) q = run-append (after es t r) p q
 
   pub relabelled : Relabelled es
-  relabelled p q vs h y n =
+  relabelled p q ks h y n =
       let S = tally-sound es all free p in
-      let r = rejoins (tally_of es p) S.regular vs n in
+      let r = rejoins (tally_of es p) S.regular ks n in
       let e : tally_of es q ≡ blank (tally_of es p).year = λ k. record { year = y k; held = h k } in
-      let w : tally_of es (q ++ map take vs) ≡ tally_of es p =
-      run-append (blank 2000) q (map take vs) ∙ ap (λ u. run es u (map take vs)) e ∙ r.is in
-      (ap (λ u. accepted es u (map take vs)) e ∙ r.accept, λ i. ap (λ u. look i u.held) w)
+      let w : tally_of es (q ++ takes (tally_of es p) ks) ≡ tally_of es p =
+      run-append (blank 2000) q (takes (tally_of es p) ks) ∙ ap (λ u. run es u (takes (tally_of es p) ks)) e ∙ r.is in
+      (ap (λ u. accepted es u (takes (tally_of es p) ks)) e ∙ r.accept, λ i. ap (λ u. look i u.held) w)
 
   pub law_of_the_halls : LawOfTheHalls es
   law_of_the_halls = (filed_alike, relabelled)
@@ -172,3 +170,6 @@ pub reads_back_anywhere : (es : List Entry) → T (all_lawful es) → T (prefix_
 reads_back_anywhere es all free rs ds all' free' known =
     let R = (tally-sound es all free rs).regular in
     reads_back ds all' free' (tally_of es rs).year (tally_of es rs).held (record { rising = R.rising; known = known; few = R.few; stands = R.stands })
+
+pub halls_stand : HallsStand
+halls_stand es all free = (law_of_the_halls es all free, reads_back_anywhere es all free)

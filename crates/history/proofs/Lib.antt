@@ -1,10 +1,10 @@
 pub mod Sorts
 pub mod Looks
+pub mod Stands
 pub mod Regulars
 pub mod Spellings
 pub mod Rescans
+pub mod Pieces
 pub mod Fills
 pub mod Halls
-pub mod Steps
-pub mod Settlings
 pub mod Samples

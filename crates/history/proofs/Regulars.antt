@@ -19,10 +19,10 @@ use Rattle.cards.specs.Codes.{same_meaning}
 use Rattle.cards.specs.Tallies.{Held, Tally, blank, ident, insert, look, without, crossed, Put, joins, put, outside, first_outside}
 use Rattle.cards.specs.Outcomes.{held_as, on_front, on_put, puts, scan_outcome, in_symbol, take_data, strike_outcome, turn_unless, turn_outcome}
 use Rattle.cards.specs.declared.fault.CardFault.TheVariants.{NotHeld, NoSuchYear}
-use Rattle.cards.proofs.Standing.{Stands, field_stands, stands-turned}
 use Rattle.history.specs.Requests.{Request, scan, take, strike, wipe, turn, holding, leaves, or_kept, after, run, tally_of}
 use Rattle.history.proofs.Sorts.{Within, Rising, insert-from, insert-length, insert-rising, without-within, without-rising, rising-shorter, rising-one}
 use Rattle.history.proofs.Looks.{look_none}
+use Rattle.history.proofs.Stands.{Stands, field_stands, stands-turned}
 
 -- elements in canonical order, at most 32, each of an entry of the book and standing in the year
 pub record Regular (es : List Entry) (y : ℕ) (hs : List Held) : Type 0 where

@@ -1,11 +1,12 @@
 -- The definitions on a small example of the GS1 book.
-use Rattle.std.proofs.Common.{◌≡◌, true, false, [], ◌∷◌, ◌++◌, map, length, refl}
+use Rattle.std.proofs.Common.{◌≡◌, true, false, [], ◌∷◌, ◌++◌, length, refl}
 use Rattle.books.specs.Table.{table}
 use Rattle.scans.specs.Elements.{mark}
 use Rattle.cards.specs.Tallies.{put, blank}
 use Rattle.cards.specs.Outcomes.{puts}
 use Rattle.cards.specs.Strings.{canonical, symbols}
-use Rattle.history.specs.Requests.{Request, scan, take, turn, strike, tally_of, accepted}
+use Rattle.history.specs.Requests.{Request, scan, turn, strike, tally_of, accepted}
+use Rattle.history.specs.Laws.{takes}
 
 -- lot B (ident 10), a separator, variant 07 (ident 20), best before the last day of 2026 (ident 15)
 abbrev scanned : Request
@@ -30,6 +31,6 @@ one_symbol : length (symbols (tally_of table (scanned ∷ []))) ≡ 1
 unfolding puts put
 one_symbol = refl
 
-rejoined : accepted table (blank 2000) (map take (symbols (tally_of table (scanned ∷ [])) ++ symbols (tally_of table (scanned ∷ [])))) ≡ true
+rejoined : accepted table (blank 2000) (takes (tally_of table (scanned ∷ [])) (0 ∷ 0 ∷ [])) ≡ true
 unfolding puts put
 rejoined = refl

@@ -14,8 +14,7 @@ use Rattle.scans.proofs.Spelled.{text-long, text-first, gap-none, Takes, takes}
 use Rattle.cards.specs.Tallies.{Held, ident}
 use Rattle.cards.specs.Outcomes.{held_as}
 use Rattle.cards.specs.Strings.{piece, parting, ending, spelled}
-use Rattle.cards.proofs.Pieces.{piece-long}
-use Rattle.cards.proofs.Standing.{Stands}
+use Rattle.history.proofs.Stands.{Stands}
 
 -- a text holds no separator
 allowed-plain : (b : ℕ) → allowed b ≡ true → plain b ≡ true
@@ -54,6 +53,9 @@ first_is : (xs : List Held) → gap (spelled xs) ≡ 0
 first_is [] = refl
 first_is (x ∷ xs) = gap-none (spelled (x ∷ xs)) (text-first x.entry (spelled (x ∷ xs)) (written x.value ++ (behind x xs ++ spelled xs)) (spelled_is x xs))
 
+pub piece-long : (x : Held) → length (piece x) ≡ x.entry.ident.digits + length (written x.value)
+piece-long x = length-append (ident x) (written x.value) ∙ ap (λ n. n + length (written x.value)) (text-long x.entry)
+
 ending-length : (x : Held) (xs : List Held) → length xs ≤ length (ending x xs)
 ending-length x [] = omega arith
 ending-length x (z ∷ zs) =
@@ -82,6 +84,6 @@ pub record Read (es : List Entry) (y p : ℕ) (x : Held) (xs : List Held) : Type
 
 pub first_read : (es : List Entry) → T (all_lawful es) → T (prefix_free es) → (y p : ℕ) (x : Held) (xs : List Held) → In x.entry es → Stands y x → Read es y p x xs
 first_read es all free y p x xs i s =
-    let known : Known es (element_of x) = record { listed = i; least = s.fit.least; most = s.fit.most; plainly = every-plain (written x.value) s.fit.text } in
+    let known : Known es (element_of x) = record { listed = i; least = s.least; most = s.most; plainly = every-plain (written x.value) s.text } in
     let t : Takes es all free y p (spelled (x ∷ xs)) (element_of x) (spelled xs) = takes es all free y p (spelled (x ∷ xs)) (element_of x) (behind x xs) (spelled xs) (spelled_is x xs) known (apart-is x xs) s.means.lawful (λ _. first_is xs) in
     record { taken = t.taken; is = t.seen; rest = t.left }

@@ -1,8 +1,5 @@
 -- The law of the halls: what cards say of one another, over all lists of calls.
---
--- Throughout, es are the entries of a book, and a card is one straight from its making after a list of calls: `tally_of es p` is
--- its tally after the calls p, refused ones among them.
-use Rattle.std.specs.Prelude.{◌≡◌, ℕ, true, T, List, [], ◌++◌, map, length, Ok}
+use Rattle.std.specs.Prelude.{◌≡◌, ℕ, ◌<◌, true, T, List, [], ◌++◌, map, length, Ok, slice_index_or}
 use Rattle.books.specs.Entries.{all_lawful, prefix_free, In}
 use Rattle.books.specs.declared.entry.Entry.{Entry}
 use Rattle.scans.specs.Elements.{mark}
@@ -11,35 +8,42 @@ use Rattle.cards.specs.Outcomes.{scan_outcome, take_outcome}
 use Rattle.cards.specs.Strings.{canonical, runs, symbol_of, symbols}
 use Rattle.history.specs.Requests.{Request, take, tally_of, accepted, MeansSame}
 
--- (a) Two cards in one year, after the calls p and q: their canonical strings are equal exactly where the cards mean the same.
+-- cards of one year have the same canonical string exactly where they mean the same, however they came to be
 abbrev pub FiledAlike : List Entry → Type 0
 FiledAlike es =
     (p q : List Request) → (tally_of es p).year ≡ (tally_of es q).year
     → (canonical (tally_of es p) ≡ canonical (tally_of es q) → MeansSame (tally_of es p) (tally_of es q))
     × (MeansSame (tally_of es p) (tally_of es q) → canonical (tally_of es p) ≡ canonical (tally_of es q))
 
--- the symbols vs are those that are printed of a card with the tally t, in any order: no other is among them, and each is, once or more
-pub record Printed (t : Tally) (vs : List (List ℕ)) : Type 0 where
-  pub only : (v : List ℕ) → In v vs → In v (symbols t)
-  pub every : (v : List ℕ) → In v (symbols t) → In v vs
+-- the symbols of a card are taken in the order ks, by their numbers from 0
+abbrev pub takes : Tally → List ℕ → List Request
+takes t ks = map (λ k. take (slice_index_or (symbols t) k [])) ks
 
--- (b) A card after the calls p, and one that is empty after the calls q and in the same year. The second takes all symbols that are
--- printed of the first, in any order and each once or more: it accepts all of them, and then means the same as the first.
+-- the numbers are those of the symbols of a card: every one of them, and no other
+pub record Numbers (t : Tally) (ks : List ℕ) : Type 0 where
+  pub below : (k : ℕ) → In k ks → k < length (symbols t)
+  pub every : (k : ℕ) → k < length (symbols t) → In k ks
+
+-- a card's symbols, taken on an empty card of its year in any order and each once or more, are all accepted,
+-- and give a card that means the same
 abbrev pub Relabelled : List Entry → Type 0
 Relabelled es =
-    (p q : List Request) (vs : List (List ℕ))
-    → (tally_of es q).held ≡ [] → (tally_of es q).year ≡ (tally_of es p).year → Printed (tally_of es p) vs
-    → (accepted es (tally_of es q) (map take vs) ≡ true) × MeansSame (tally_of es (q ++ map take vs)) (tally_of es p)
+    (p q : List Request) (ks : List ℕ) → (tally_of es q).held ≡ [] → (tally_of es q).year ≡ (tally_of es p).year → Numbers (tally_of es p) ks
+    → (accepted es (tally_of es q) (takes (tally_of es p) ks) ≡ true) × MeansSame (tally_of es (q ++ takes (tally_of es p) ks)) (tally_of es p)
 
--- the law of the halls: (a) and (b)
+-- the law of the halls
 abbrev pub LawOfTheHalls : List Entry → Type 0
 LawOfTheHalls es = FiledAlike es × Relabelled es
 
--- What a card says is read back under every other book ds too that has the entries held, on an empty card of its year: its canonical
--- string, as a scan, gives all that it holds, and each of its symbols gives the symbol's run.
+-- what a card says is read back under every book that has the entries held: its canonical string to all that it holds,
+-- and each of its symbols to the symbol's run
 abbrev pub ReadsBackAnywhere : List Entry → Type 0
 ReadsBackAnywhere es =
     (rs : List Request) (ds : List Entry) → T (all_lawful ds) → T (prefix_free ds)
     → ((x : Held) → In x (tally_of es rs).held → In x.entry ds)
     → (scan_outcome ds (blank (tally_of es rs).year) (mark ++ canonical (tally_of es rs)) ≡ Ok (record { new = length (tally_of es rs).held; held = (tally_of es rs).held }))
     × ((run : List Held) → In run (runs (tally_of es rs).held) → take_outcome ds (blank (tally_of es rs).year) (symbol_of run) ≡ Ok (record { new = length run; held = run }))
+
+-- both, of every book
+abbrev pub HallsStand : Type 0
+HallsStand = (es : List Entry) → T (all_lawful es) → T (prefix_free es) → LawOfTheHalls es × ReadsBackAnywhere es

@@ -1,4 +1,2 @@
 pub mod Requests
-pub mod Calls
 pub mod Laws
-pub mod Settling

@@ -1,4 +1,12 @@
-// Lists of calls on cards, and the law of the halls over all of them.
-pub mod call;
-pub mod replay;
-pub mod settle;
+// The law of the halls, over all lists of calls on a card.
+ghost use Rattle.std.specs.Prelude.{◌≡◌};
+ghost use Rattle.history.specs.Laws.{HallsStand};
+
+// Bears the law: under every book, cards are filed alike exactly where they mean the same, a card's symbols
+// make it up again in any order, and what it says is read back under every other book that has its entries.
+pub fn halls_stand() -> u8
+    ensures law { HallsStand }
+    ensures none { result ≡ 0 }
+{
+    0u8
+}

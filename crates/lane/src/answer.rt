@@ -1,12 +1,33 @@
 // What is answered, as text.
 use books::ident::Ident;
+use commands::show::show;
+use forms::fault::{Fault, Layer};
 use forms::form::Form;
 use forms::judge::Reading;
 use forms::key::KeyForm;
 use forms::value::{Date, Value};
 use std::io;
 use std::io::Write;
-use tokens::show::show;
+
+// The name of a layer in a refusal.
+fn layer_name(layer: Layer) -> &'static str {
+    match layer {
+        Layer::Scan => "scan",
+        Layer::Field => "field",
+        Layer::Card => "card",
+        Layer::Writer => "writer",
+        Layer::Symbol => "symbol",
+        Layer::Book => "book",
+    }
+}
+
+// Adds a refusal: its number, layer and place.
+pub fn write_refusal<F: Fault>(fault: &F, out: &mut Vec<u8>) -> io::Result<()> {
+    let number = fault.number();
+    let layer = layer_name(fault.layer());
+    let place = fault.place();
+    writeln!(out, "refused {number} {layer} {place}")
+}
 
 // Adds a day of the calendar.
 fn write_date(date: &Date, out: &mut Vec<u8>) -> io::Result<()> {
@@ -69,13 +90,11 @@ pub fn write_element(
     writeln!(out)
 }
 
-// Adds the values of a symbol, with a space between two of them.
+// Adds the values of a symbol.
 pub fn write_values(values: &[u8], out: &mut Vec<u8>) -> io::Result<()> {
-    for (i, value) in values.iter().enumerate() {
-        if i > 0 {
-            write!(out, " ")?;
-        }
-        write!(out, "{value}")?;
+    write!(out, "ok")?;
+    for value in values {
+        write!(out, " {value}")?;
     }
     writeln!(out)
 }

@@ -1,12 +1,21 @@
 // One lane: reads commands, a line each, answers each, and gives an account at the end.
-use desk::line::without_end;
+use commands::cut::trimmed;
 use session::Session;
 use std::io;
 use std::io::{BufRead, BufReader, Write};
 
 mod answer;
+mod book;
 mod label;
 mod session;
+
+// A line without the bytes that end it: byte 10, and a byte 13 just before that.
+fn without_end(line: &[u8]) -> &[u8] {
+    match line {
+        [front @ .., b'\n'] => trimmed(front),
+        _ => line,
+    }
+}
 
 fn main(rt: HostRuntime) -> io::Result<()> {
     let mut input = BufReader::new(rt.alloc(), rt.stdin())?;
@@ -25,7 +34,7 @@ fn main(rt: HostRuntime) -> io::Result<()> {
         output.flush()?;
     }
     text.clear();
-    session.account(rt.alloc(), &mut text)?;
+    session.account(&mut text)?;
     output.write_all(text.as_slice())?;
     output.flush()
 }

@@ -1,14 +1,13 @@
 // What a lane holds between two lines, and what each line does to it.
-use crate::answer::{write_element, write_reading, write_value, write_values};
+use crate::answer::{write_element, write_reading, write_refusal, write_value, write_values};
+use crate::book::{BookInUse, HallWords};
 use crate::label::OpenSymbol;
 use books::book::Book;
 use books::gs1::Gs1Book;
 use cards::card::Card;
-use commands::line::{BookChoice, CardCall, Command, Line};
+use commands::complaint::Complaint;
+use commands::line::{Command, Line};
 use commands::parse::parse;
-use desk::book::{BookInUse, HallWords};
-use desk::refusal::write_refusal;
-use desk::writing::{string_in, string_of, symbol_in, symbol_of};
 use forms::fault::Fault;
 use forms::judge::judge;
 use forms::kind::FormKind;
@@ -18,8 +17,6 @@ use scans::read::count_elements;
 use std::alloc::Global;
 use std::io;
 use std::io::Write;
-use tokens::complaint::Complaint;
-use tokens::show::show;
 
 // What became of a command.
 #[derive(Clone, Copy)]
@@ -55,9 +52,8 @@ fn tell(n: usize, out: &mut Vec<u8>) -> io::Result<Outcome> {
 }
 
 // Adds a refusal.
-fn refuse<F: Fault>(heap: Global, fault: &F, out: &mut Vec<u8>) -> io::Result<Outcome> {
-    write_refusal(heap, fault, out)?;
-    writeln!(out)?;
+fn refuse<F: Fault>(fault: &F, out: &mut Vec<u8>) -> io::Result<Outcome> {
+    write_refusal(fault, out)?;
     Ok(Outcome::Refused)
 }
 
@@ -69,16 +65,10 @@ fn lacks_symbol(out: &mut Vec<u8>) -> io::Result<Outcome> {
 }
 
 // Adds the elements of a scan, which are judged under the book and in the year.
-fn read<B: Book>(
-    heap: Global,
-    book: &B,
-    year: Year,
-    scan: &[u8],
-    out: &mut Vec<u8>,
-) -> io::Result<Outcome> {
+fn read<B: Book>(book: &B, year: Year, scan: &[u8], out: &mut Vec<u8>) -> io::Result<Outcome> {
     let n = match count_elements(book, year, scan) {
         Ok(n) => n,
-        Err(fault) => return refuse(heap, &fault, out),
+        Err(fault) => return refuse(&fault, out),
     };
     writeln!(out, "ok {n}")?;
     let mut at = 3;
@@ -136,49 +126,33 @@ impl Session {
     // Adds what is answered to a command.
     fn obey(&mut self, heap: Global, command: Command, out: &mut Vec<u8>) -> io::Result<Outcome> {
         match command {
-            Command::Call(call) => self.call(heap, call, out),
-            Command::Look(ident) => self.look(ident.as_slice(), out),
-            Command::Field { kind, bytes } => self.field(heap, kind, bytes.as_slice(), out),
-            Command::Read(bytes) => self.read(heap, bytes.as_slice(), out),
-            Command::Book(BookChoice::Gs1) => self.use_gs1(out),
-            Command::Book(BookChoice::Hall(words)) => self.use_hall(heap, words, out),
-            Command::Begin { room } => self.begin(heap, room, out),
-            Command::Add(bytes) => self.add(heap, bytes.as_slice(), out),
-            Command::Seal => self.seal(heap, out),
-            Command::Canonical { room } => self.canonical(heap, room, out),
-            Command::Symbols => tell(self.card.symbols(), out),
-            Command::Print { number, room } => self.print(heap, number, room, out),
-        }
-    }
-
-    // Adds what is answered to a call of the card.
-    fn call(&mut self, heap: Global, call: CardCall, out: &mut Vec<u8>) -> io::Result<Outcome> {
-        match call {
-            CardCall::Scan(bytes) => self.scan(heap, bytes.as_slice(), out),
-            CardCall::Take(values) => self.take(heap, values.as_slice(), out),
-            CardCall::Strike(ident) => match self.card.strike(ident.as_slice()) {
+            Command::Turn(number) => match self.card.turn(number) {
                 Ok(()) => accept(out),
-                Err(fault) => refuse(heap, &fault, out),
+                Err(fault) => refuse(&fault, out),
             },
-            CardCall::Wipe => {
+            Command::Scan(bytes) => self.scan(bytes.as_slice(), out),
+            Command::Take(values) => self.take(values.as_slice(), out),
+            Command::Strike(ident) => match self.card.strike(ident.as_slice()) {
+                Ok(()) => accept(out),
+                Err(fault) => refuse(&fault, out),
+            },
+            Command::Wipe => {
                 self.card.wipe();
                 accept(out)
             }
-            CardCall::Turn(year) => match self.card.turn(year) {
-                Ok(()) => accept(out),
-                Err(fault) => refuse(heap, &fault, out),
-            },
+            Command::Look(ident) => self.look(ident.as_slice(), out),
+            Command::Field { kind, bytes } => self.field(kind, bytes.as_slice(), out),
+            Command::Read(bytes) => self.read(bytes.as_slice(), out),
+            Command::Gs1Book => self.use_gs1(out),
+            Command::HallBook(words) => self.use_hall(words, out),
+            Command::Begin { room } => self.begin(heap, room, out),
+            Command::Add(bytes) => self.add(bytes.as_slice(), out),
+            Command::Seal => self.seal(out),
         }
     }
 
     // Adds what is answered to the bytes of one field.
-    fn field(
-        &self,
-        heap: Global,
-        kind: FormKind,
-        bytes: &[u8],
-        out: &mut Vec<u8>,
-    ) -> io::Result<Outcome> {
+    fn field(&self, kind: FormKind, bytes: &[u8], out: &mut Vec<u8>) -> io::Result<Outcome> {
         let mut writing = [0; 30];
         match judge(kind, self.card.year(), bytes, 0, &mut writing) {
             Ok(reading) => {
@@ -187,39 +161,39 @@ impl Session {
                 writeln!(out)?;
                 Ok(Outcome::Done)
             }
-            Err(fault) => refuse(heap, &fault, out),
+            Err(fault) => refuse(&fault, out),
         }
     }
 
     // Adds what is answered to the bytes of a scan.
-    fn read(&self, heap: Global, scan: &[u8], out: &mut Vec<u8>) -> io::Result<Outcome> {
+    fn read(&self, scan: &[u8], out: &mut Vec<u8>) -> io::Result<Outcome> {
         match &self.book {
-            BookInUse::Gs1 => read(heap, &Gs1Book, self.card.year(), scan, out),
-            BookInUse::Hall(words) => read(heap, &words.book(), self.card.year(), scan, out),
+            BookInUse::Gs1 => read(&Gs1Book, self.card.year(), scan, out),
+            BookInUse::Hall(words) => read(&words.book(), self.card.year(), scan, out),
         }
     }
 
     // Puts the elements of a scan on the card, and adds how many idents came to be held.
-    fn scan(&mut self, heap: Global, scan: &[u8], out: &mut Vec<u8>) -> io::Result<Outcome> {
+    fn scan(&mut self, scan: &[u8], out: &mut Vec<u8>) -> io::Result<Outcome> {
         let put = match &self.book {
             BookInUse::Gs1 => self.card.scan(&Gs1Book, scan),
             BookInUse::Hall(words) => self.card.scan(&words.book(), scan),
         };
         match put {
             Ok(n) => tell(n, out),
-            Err(fault) => refuse(heap, &fault, out),
+            Err(fault) => refuse(&fault, out),
         }
     }
 
     // Puts the elements of a symbol on the card, and adds how many idents came to be held.
-    fn take(&mut self, heap: Global, values: &[u8], out: &mut Vec<u8>) -> io::Result<Outcome> {
+    fn take(&mut self, values: &[u8], out: &mut Vec<u8>) -> io::Result<Outcome> {
         let put = match &self.book {
             BookInUse::Gs1 => self.card.take(&Gs1Book, values),
             BookInUse::Hall(words) => self.card.take(&words.book(), values),
         };
         match put {
             Ok(n) => tell(n, out),
-            Err(fault) => refuse(heap, &fault, out),
+            Err(fault) => refuse(&fault, out),
         }
     }
 
@@ -241,19 +215,14 @@ impl Session {
     }
 
     // Uses the hall book of the words, and adds how many entries it has; where they are no book, keeps the one in use.
-    fn use_hall(
-        &mut self,
-        heap: Global,
-        words: Vec<u32>,
-        out: &mut Vec<u8>,
-    ) -> io::Result<Outcome> {
+    fn use_hall(&mut self, words: Vec<u32>, out: &mut Vec<u8>) -> io::Result<Outcome> {
         match HallWords::new(words) {
             Ok(hall) => {
                 let n = hall.book().count();
                 self.book = BookInUse::Hall(hall);
                 tell(n, out)
             }
-            Err(fault) => refuse(heap, &fault, out),
+            Err(fault) => refuse(&fault, out),
         }
     }
 
@@ -264,12 +233,12 @@ impl Session {
                 self.symbol = Some(symbol);
                 accept(out)
             }
-            Err(fault) => refuse(heap, &fault, out),
+            Err(fault) => refuse(&fault, out),
         }
     }
 
     // Adds an element to the open symbol, which stays open.
-    fn add(&mut self, heap: Global, element: &[u8], out: &mut Vec<u8>) -> io::Result<Outcome> {
+    fn add(&mut self, element: &[u8], out: &mut Vec<u8>) -> io::Result<Outcome> {
         let Some(symbol) = self.symbol.take() else {
             return lacks_symbol(out);
         };
@@ -281,103 +250,44 @@ impl Session {
             Err(back) => {
                 let (symbol, fault) = back;
                 self.symbol = Some(symbol);
-                refuse(heap, &fault, out)
+                refuse(&fault, out)
             }
         }
     }
 
     // Seals the open symbol, which is then no longer open.
-    fn seal(&mut self, heap: Global, out: &mut Vec<u8>) -> io::Result<Outcome> {
+    fn seal(&mut self, out: &mut Vec<u8>) -> io::Result<Outcome> {
         let Some(symbol) = self.symbol.take() else {
             return lacks_symbol(out);
         };
         match symbol.seal() {
             Ok(values) => {
-                write!(out, "ok ")?;
                 write_values(values.as_slice(), out)?;
                 Ok(Outcome::Done)
             }
             Err(back) => {
                 let (symbol, fault) = back;
                 self.symbol = Some(symbol);
-                refuse(heap, &fault, out)
+                refuse(&fault, out)
             }
         }
     }
 
-    // Adds the canonical string, if it fits into a buffer of `room` bytes.
-    fn canonical(&self, heap: Global, room: usize, out: &mut Vec<u8>) -> io::Result<Outcome> {
-        match string_in(heap, &self.card, room)? {
-            Ok(string) => {
-                write!(out, "ok ")?;
-                show(string.as_slice(), out)?;
-                writeln!(out)?;
-                Ok(Outcome::Done)
-            }
-            Err(fault) => refuse(heap, &fault, out),
-        }
-    }
-
-    // Adds the values of the symbol of that number, if they fit into a buffer of `room` bytes.
-    fn print(
-        &self,
-        heap: Global,
-        number: u64,
-        room: usize,
-        out: &mut Vec<u8>,
-    ) -> io::Result<Outcome> {
-        match symbol_in(heap, &self.card, number as usize, room)? {
-            Ok(values) => {
-                write!(out, "ok ")?;
-                write_values(values.as_slice(), out)?;
-                Ok(Outcome::Done)
-            }
-            Err(fault) => refuse(heap, &fault, out),
-        }
-    }
-
-    // Adds the account: what was answered, and then the card with its elements, its canonical string and its symbols.
-    pub fn account(&self, heap: Global, out: &mut Vec<u8>) -> io::Result<()> {
+    // Adds the account.
+    pub fn account(&self, out: &mut Vec<u8>) -> io::Result<()> {
         let commands = self.commands;
         let refused = self.refused;
         let year = self.card.year().number();
+        let held = self.card.count();
         writeln!(out, "account")?;
         writeln!(out, "commands {commands} refused {refused}")?;
         writeln!(out, "year {year}")?;
-        self.write_elements(out)?;
-        self.write_string(heap, out)?;
-        self.write_symbols(heap, out)
-    }
-
-    // Adds how many elements are held, and each of them.
-    fn write_elements(&self, out: &mut Vec<u8>) -> io::Result<()> {
-        let held = self.card.count();
         writeln!(out, "held {held}")?;
         for place in 0..held {
             let mut writing = [0; 30];
             if let Some(element) = self.card.element(place, &mut writing) {
                 let (ident, reading) = element;
                 write_element(&ident, &reading, &writing, out)?;
-            }
-        }
-        Ok(())
-    }
-
-    // Adds the canonical string.
-    fn write_string(&self, heap: Global, out: &mut Vec<u8>) -> io::Result<()> {
-        let string = string_of(heap, &self.card)?;
-        write!(out, "string ")?;
-        show(string.as_slice(), out)?;
-        writeln!(out)
-    }
-
-    // Adds how many symbols there are, and the values of each.
-    fn write_symbols(&self, heap: Global, out: &mut Vec<u8>) -> io::Result<()> {
-        let count = self.card.symbols();
-        writeln!(out, "symbols {count}")?;
-        for k in 0..count {
-            if let Some(values) = symbol_of(heap, &self.card, k)? {
-                write_values(values.as_slice(), out)?;
             }
         }
         Ok(())

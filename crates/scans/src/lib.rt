@@ -2,3 +2,5 @@
 pub mod element;
 pub mod fault;
 pub mod read;
+#[cfg(test)]
+mod tests;

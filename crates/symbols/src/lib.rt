@@ -4,4 +4,6 @@ mod encode;
 pub mod fault;
 pub mod reader;
 pub mod state;
+#[cfg(test)]
+mod tests;
 pub mod writer;

@@ -1,6 +1,6 @@
 // Writes symbols, element by element.
 ghost use Rattle.std.specs.Prelude.{◌≡◌, length};
-ghost use Rattle.symbols.specs.Encoding.{fixed_length, misfits, separated, clean};
+ghost use Rattle.symbols.specs.Encoding.{predefined, fixed_length, misfits, separated, clean};
 ghost use Rattle.symbols.specs.Writing.{Begins, Admits, Adds, Closes, Seals, stage};
 ghost use Rattle.symbols.specs.Laws.{CountsRight, ReadsBack};
 
@@ -8,7 +8,6 @@ use crate::code::{CodeSet, SEPARATOR, START_C, STOP};
 use crate::encode::{check_on, encode};
 use crate::fault::{AddFault, WriterFault};
 use crate::state::Open;
-use books::ident::predefined_length;
 use forms::bytes::{DigitByte, TextByte, passed};
 
 // Begins a symbol: writes its start and the value that marks it over the first two bytes of `buf`.
@@ -29,14 +28,27 @@ pub fn begin(buf: &mut [u8]) -> Result<Open, WriterFault>
     })
 }
 
+// The predefined length of elements by their first two digits, if they have one.
+fn predefined_length(first_two: u8) -> Option<usize>
+    ensures { result ≡ predefined first_two }
+{
+    match first_two {
+        0 => Some(20),
+        1..=3 | 41 => Some(16),
+        4 => Some(18),
+        11..=19 => Some(8),
+        20 => Some(4),
+        31..=36 => Some(10),
+        _ => None,
+    }
+}
+
 // The length that an element's first two digits predefine, if they do.
-fn fixed_length(element: &[u8]) -> Option<u8>
+fn fixed_length(element: &[u8]) -> Option<usize>
     ensures { result ≡ fixed_length element.now }
 {
     match element {
-        [a @ b'0'..=b'9', b @ b'0'..=b'9', ..] => {
-            predefined_length(u16::from(10 * (*a - 48) + (*b - 48)))
-        }
+        [a @ b'0'..=b'9', b @ b'0'..=b'9', ..] => predefined_length(10 * (*a - 48) + (*b - 48)),
         _ => None,
     }
 }
@@ -65,7 +77,7 @@ fn wrong_length(element: &[u8]) -> bool
     ensures { result ≡ misfits (length element.now) (fixed_length element.now) }
 {
     match fixed_length(element) {
-        Some(n) => element.len() != usize::from(n),
+        Some(n) => element.len() != n,
         None => element.len() < 2,
     }
 }

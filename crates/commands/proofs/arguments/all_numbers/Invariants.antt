@@ -1,7 +1,7 @@
 use Rattle.std.proofs.Common.{◌≡◌, map, length, vec_items}
-use Rattle.tokens.specs.Numerals.{all_numbers}
-use Rattle.tokens.specs.Words.{arguments}
-use Rattle.tokens.proofs.Unescapes.{onto}
+use Rattle.commands.specs.Numerals.{all_numbers}
+use Rattle.commands.specs.Words.{arguments}
+use Rattle.commands.proofs.Unescapes.{onto}
 use Rattle.commands.proofs.arguments.all_numbers.Given as goal
 
 abbrev pub invariant-loop-rest : goal.invariant-loop-rest

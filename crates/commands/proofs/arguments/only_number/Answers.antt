@@ -1,5 +1,5 @@
 use Rattle.std.proofs.Common.{ap, ◌∙◌}
-use Rattle.tokens.specs.Numerals.{number_up_to}
+use Rattle.commands.specs.Numerals.{number_up_to}
 use Rattle.commands.proofs.Tails.{only_argument}
 use Rattle.commands.proofs.arguments.only_number.Goals as goal
 

@@ -6,5 +6,5 @@ use Rattle.books.proofs.ident.Ident.whole_length.Goals as goal
 pub returns : goal.returns
 returns c =
     let self = c.args.self.now in
-    c.predefined_length.ensures
+    c.whole_behind.ensures
     ∙ ap whole (ap (λ k. self.number / k) c.power.ensures.value ∙ lead_is self.number self.digits self.least self.most self.fits)

@@ -1,3 +1,0 @@
-pub mod Asked
-pub mod Relabels
-pub mod Verdicts

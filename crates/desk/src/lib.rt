@@ -1,5 +1,0 @@
-// What the programs share: lines, the book in use, what a card writes, and refusals as text.
-pub mod book;
-pub mod line;
-pub mod refusal;
-pub mod writing;

@@ -1,4 +1,0 @@
-pub mod Readings
-pub mod Fronts
-pub mod Unescapes
-pub mod ShowsBack

@@ -1,7 +1,0 @@
-use Rattle.std.proofs.Common.{take, drop, ap, ◌∙◌, arith}
-use Rattle.std.proofs.lemmas.List.Sums.{prefix_len-le-length}
-use Rattle.tokens.specs.Words.{solid}
-use Rattle.tokens.proofs.cut.split_word.Goals as goal
-
-pub split_at-requires : goal.split_at-requires
-split_at-requires c = omega (arith, prefix_len-le-length solid c.args.bytes.now)

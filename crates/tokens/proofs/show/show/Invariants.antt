@@ -1,6 +1,0 @@
-use Rattle.std.proofs.Common.{◌≡◌, ◌++◌, take, vec_items}
-use Rattle.tokens.specs.Shows.{shown_bytes}
-use Rattle.tokens.proofs.show.show.Given as goal
-
-abbrev pub invariant-loop-b : goal.invariant-loop-b
-invariant-loop-b l = vec_items l.out ≡ vec_items l.initial.out ++ shown_bytes (take l.b-index l.bytes)

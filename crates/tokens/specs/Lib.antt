@@ -1,5 +1,0 @@
-pub mod Complaints
-pub mod Escapes
-pub mod Numerals
-pub mod Shows
-pub mod Words

@@ -1,3 +1,0 @@
-pub mod Scans
-pub mod Cases
-pub mod Numbers

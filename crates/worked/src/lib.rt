@@ -1,2 +1,0 @@
-// Cases that were worked by hand, shown of the definitions and kept for programs to run.
-pub mod stored;
