@@ -7,6 +7,8 @@ use Rattle.std.proofs.lemmas.Bool.{false≢true}
 use Rattle.std.proofs.lemmas.Bool.Decides.{Decides-eqb, Decides-and, Decides-like}
 use Rattle.books.specs.declared.entry.Entry.{Entry}
 use Rattle.books.specs.declared.ident.Ident.{Ident}
+use denote.Enum.Bare.{same_true, true_same, sameb}
+use Rattle.forms.specs.contracts.kind.FormKind.{the_type}
 use Rattle.books.specs.Lawful.{lawful}
 
 pub same_ident : (i j : Ident) → i.digits ≡ j.digits → i.number ≡ j.number → i ≡ j
@@ -50,3 +52,8 @@ entries_decided d e a b p q =
     Decides-like (((a && b) && s) && l) (λ h. same_entry_lem d e h.0.0.0 h.0.0.1 h.0.1 h.1)
     (λ h. (((ap (λ x. x.ident) h, ap (λ x. x.form) h), ap (λ x. x.shortest) h), ap (λ x. x.longest) h))
     (Decides-and ((a && b) && s) l (Decides-and (a && b) s (Decides-and a b p q) (Decides-eqb d.shortest e.shortest)) (Decides-eqb d.longest e.longest))
+
+-- the test of entries, part by part, decides whether they are one
+pub entries_alike : (d e : Entry)
+    → Decides ((((eqb d.ident.digits e.ident.digits && eqb d.ident.number e.ident.number) && sameb the_type d.form e.form) && eqb d.shortest e.shortest) && eqb d.longest e.longest) (d ≡ e)
+entries_alike d e = entries_decided d e _ _ (idents_decided d.ident e.ident) (same_true the_type tt d.form e.form, true_same the_type d.form e.form)

@@ -1,11 +1,11 @@
 -- Lists of bytes that begin with another, and their order.
-use Rattle.std.proofs.Common.{◌≡◌, ℕ, ◌<◌, Bool, true, eqb, List, [], ◌∷◌, ◌++◌, length, take, drop, IsSomeAnd, Decides, refl, ap, ◌∙◌, arith}
+use Rattle.std.proofs.Common.{◌≡◌, ℕ, ◌<◌, Bool, true, eqb, List, [], ◌∷◌, ◌++◌, length, take, drop, Some, Decides, refl, ap, ◌∙◌, arith}
 use Rattle.std.proofs.lemmas.Slice.Eq.{starts_is}
 use Rattle.std.proofs.lemmas.Cmp.{same_from_slice_cmp_tested}
 use Rattle.std.proofs.lemmas.Bool.{and_parts, eqb-true, eq-eqb}
 use Rattle.std.proofs.lemmas.Bool.Decides.{nat_tests, same_from_decides, Decides-eqb}
-use Rattle.std.specs.Cmp.Lexicographic.{Matches, LexSome}
-use Rattle.std.specs.Ordering.{MatchOrdering, Tested, is_lt, nat_cmp}
+use Rattle.std.specs.Cmp.Lexicographic.{pointwise, slice_partial_cmp}
+use Rattle.std.specs.Ordering.{is_some_and, is_lt, nat_cmp}
 use Rattle.books.specs.Texts.{starts, comes_first}
 
 -- a list begins with another where it is that list and something behind it
@@ -23,14 +23,14 @@ starts-own [] rest = refl
 starts-own (x ∷ p) rest = let h = eq-eqb x x refl in rw h (starts-own p rest)
 
 -- what the library's test answers is the definition's answer
-pub front-tested : (p s : List ℕ) (r : Bool) → Matches (λ (a b : ℕ) (t : Bool). Decides t (a ≡ b)) p (take (length p) s) r → r ≡ starts p s
+pub front-tested : (p s : List ℕ) (r : Bool) → r ≡ pointwise eqb p (take (length p) s) → r ≡ starts p s
 front-tested p s r m =
     let said = starts_is Decides-eqb s p r m in
     same_from_decides r (starts p s) (said.0, λ e. said.1 (drop (length p) s) e)
     (starts-front p s, λ e. ap (starts p) e ∙ starts-own p (drop (length p) s))
 
 -- what the library's order answers is the definition's answer
-pub order_tested : (xs ys : List ℕ) (r : Bool) → Tested (LexSome (λ x y o. IsSomeAnd o (λ k. MatchOrdering k (x < y) (x ≡ y) (y < x))) xs ys) is_lt r → r ≡ comes_first xs ys
+pub order_tested : (xs ys : List ℕ) (r : Bool) → r ≡ is_some_and is_lt (slice_partial_cmp (λ x y. Some (nat_cmp x y)) xs ys) → r ≡ comes_first xs ys
 order_tested =
     same_from_slice_cmp_tested nat_cmp is_lt comes_first refl (λ _ _. refl) (λ _ _. refl)
     (λ x y xs ys o h. grind (arith, nat_tests))

@@ -1,6 +1,9 @@
 // An entry of a book: an ident, and what the field behind it may be.
-ghost use Rattle.std.specs.Prelude.{◌≡◌, ◌≤◌, T, Decides, MatchOption};
+ghost use Rattle.std.specs.Prelude.{nat_eq, ◌==◌, ◌&&◌, ◌≡◌, ◌≤◌, T, Decides, MatchOption};
 ghost use Rattle.books.specs.Lawful.{in_bounds, form_allows, fills, lawful};
+ghost use Rattle.std.specs.Ordering.{eq_of_both, on};
+ghost use denote.Enum.Declared.{tag_of};
+ghost use Rattle.forms.specs.contracts.kind.FormKind.{the_type};
 ghost use Rattle.std.specs.Cmp.Rules.{comparing};
 ghost use Rattle.std.proofs.Common.{rules, arith};
 
@@ -22,11 +25,19 @@ pub struct Entry {
 
 // Entries are equal where all that they say is.
 impl PartialEq for Entry {
-    ghost equals = { λ a b r. Decides r (a ≡ b) };
+    ghost eq = {
+        eq_of_both
+        (eq_of_both
+        (eq_of_both (on (λ e. e.ident) (eq_of_both (on (λ i. i.digits) nat_eq) (on (λ i. i.number) nat_eq))) (on (λ e. tag_of the_type e.form) nat_eq))
+        (on (λ e. e.shortest) nat_eq)) (on (λ e. e.longest) nat_eq)
+    };
 
-    ghost laws = { first_of (Prim.search (comparing, rules), Prim.grind (arith, Self.row.coded.inj)) };
+    ghost laws = { Prim.search (comparing, rules) depth 12 };
 
-    fn eq(&self, other: &Entry) -> bool {
+    fn eq(&self, other: &Entry) -> bool
+        ensures is { result ≡ (((self.now.ident.digits == other.now.ident.digits && self.now.ident.number == other.now.ident.number) && tag_of the_type self.now.form == tag_of the_type other.now.form) && self.now.shortest == other.now.shortest && self.now.longest == other.now.longest) }
+        ensures decides { Decides result (self.now ≡ other.now) }
+    {
         (self.ident == other.ident)
             & (self.form == other.form)
             & (self.shortest == other.shortest)

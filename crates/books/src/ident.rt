@@ -1,7 +1,8 @@
 // An Application Identifier: two to four digits that say what the field behind them is.
-ghost use Rattle.std.specs.Prelude.{◌≡◌, ◌+◌, ◌/◌, ◌%◌, ◌^◌, ◌<◌, ◌≤◌, ◌++◌, take, drop, Decides, MatchOption};
+ghost use Rattle.std.specs.Prelude.{nat_eq, ◌==◌, ◌&&◌, ◌≡◌, ◌+◌, ◌/◌, ◌%◌, ◌^◌, ◌<◌, ◌≤◌, ◌++◌, take, drop, Decides, MatchOption};
 ghost use Rattle.forms.specs.Bytes.{last_digits};
 ghost use Rattle.books.specs.Texts.{IsIdent, starts, overlap, comes_first, lead, whole, predefined, rank};
+ghost use Rattle.std.specs.Ordering.{eq_of_both, on};
 ghost use Rattle.std.specs.Cmp.Rules.{comparing};
 ghost use Rattle.std.proofs.Common.{rules, arith};
 
@@ -17,11 +18,14 @@ pub struct Ident {
 
 // Idents are equal where their digits and numbers are.
 impl PartialEq for Ident {
-    ghost equals = { λ a b r. Decides r (a ≡ b) };
+    ghost eq = { eq_of_both (on (λ i. i.digits) nat_eq) (on (λ i. i.number) nat_eq) };
 
-    ghost laws = { first_of (Prim.search (comparing, rules), Prim.grind (arith, Self.row.coded.inj)) };
+    ghost laws = { Prim.search (comparing, rules) };
 
-    fn eq(&self, other: &Ident) -> bool {
+    fn eq(&self, other: &Ident) -> bool
+        ensures is { result ≡ (self.now.digits == other.now.digits && self.now.number == other.now.number) }
+        ensures decides { Decides result (self.now ≡ other.now) }
+    {
         (self.digits == other.digits) & (self.number == other.number)
     }
 }

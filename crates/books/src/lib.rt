@@ -1,4 +1,6 @@
 // Books: which Application Identifiers there are, and what a field behind each of them may be.
+#![tactic(auto)]
+
 pub mod book;
 pub mod entry;
 pub mod fault;

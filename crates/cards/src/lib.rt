@@ -1,4 +1,6 @@
 // The card of a lane: a year and the elements of a pallet.
+#![tactic(auto)]
+
 pub mod card;
 mod change;
 pub mod fault;

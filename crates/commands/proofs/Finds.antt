@@ -1,6 +1,6 @@
 -- A walk along what has names.
-use Rattle.std.proofs.Common.{◌≡◌, ℕ, ◌+◌, ◌<◌, Bool, true, false, cond, List, ◌∷◌, length, get_or, drop, Some, Decides, sym, ap, ◌∙◌}
-use Rattle.std.specs.Cmp.Lexicographic.{Matches}
+use Rattle.std.proofs.Common.{◌≡◌, ℕ, ◌+◌, ◌<◌, Bool, true, false, cond, List, ◌∷◌, length, eqb, get_or, drop, Some, Decides, sym, ap, ◌∙◌}
+use Rattle.std.specs.Cmp.Lexicographic.{pointwise}
 use Rattle.std.specs.Str.{bytes_eq}
 use Rattle.std.proofs.lemmas.Slice.Eq.{slice_eq-Decides, bytes_eq-Decides}
 use Rattle.std.proofs.lemmas.List.{drop_more}
@@ -9,7 +9,7 @@ use Rattle.commands.specs.Names.{first_named}
 
 module _ {A : Type 0} (name : A → List ℕ) (all : List A) (bs : List ℕ) (i : ℕ) (x : A) (l : i < length all) (is : x ≡ get_or all i x) where
   -- the name at hand, and what the code's comparison says of it
-  module _ (s : List ℕ) (e : s ≡ name x) (r : Bool) (m : Matches (λ (a b : ℕ) (t : Bool). Decides t (a ≡ b)) s bs r) where
+  module _ (s : List ℕ) (e : s ≡ name x) (r : Bool) (m : r ≡ pointwise eqb s bs) where
     here : first_named name (drop i all) bs ≡ cond r (Some x) (first_named name (drop (i + 1) all) bs)
     here =
         let d = drop_more all i x l ∙ ap (λ y. y ∷ drop (i + 1) all) (sym is) in

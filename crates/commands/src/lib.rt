@@ -1,4 +1,6 @@
 // The command language: what a line of input means, and how bytes are shown.
+#![tactic(auto)]
+
 mod arguments;
 pub mod complaint;
 pub mod cut;

@@ -1,7 +1,7 @@
 -- What a form's laws follow from.
-use Rattle.std.specs.Prelude.{◌≡◌, ℕ, ◌-◌, ◌≤◌, Bool, true, ◌&&◌, ◌||◌, List, [], ◌∷◌, ◌++◌, length, take, drop, replicate, Decides, refl}
+use Rattle.std.specs.Prelude.{◌≡◌, ℕ, ◌-◌, ◌≤◌, Bool, true, ◌&&◌, ◌||◌, List, [], ◌∷◌, ◌++◌, length, take, drop, replicate, Decides, refl, nat_eq}
 use Rattle.std.proofs.Common.{sym, ap, ◌∙◌, arith}
-use Rattle.std.specs.Cmp.Lexicographic.{Matches}
+use Rattle.std.specs.Cmp.Lexicographic.{pointwise}
 use Rattle.std.proofs.lemmas.List.{take_at, drop-replicate}
 use Rattle.std.proofs.lemmas.Slice.Eq.{slice_eq-Decides}
 use Rattle.std.proofs.lemmas.Bool.{and_parts, and_from, leb-true}
@@ -50,8 +50,8 @@ module _ {V : Type 0} (lawful : ℕ → List ℕ → Type 0) (worth : ℕ → Li
       → Rewrote lawful worth writing y f before after m
       → Rewrote lawful worth writing y g before' after' n
       → (writing (worth y f) ≡ writing (worth y g) → worth y f ≡ worth y g)
-      → (s : Bool) → Matches (λ (a b : ℕ) (t : Bool). Decides t (a ≡ b)) (take (m - 0) after) (take (n - 0) after') s
+      → (s : Bool) → s ≡ pointwise nat_eq (take (m - 0) after) (take (n - 0) after')
       → Decides s (worth y f ≡ worth y g)
   decides_same y f g before after before' after' m n w x apart s h =
-      let d = rw (front-is y f before after m w, front-is y g before' after' n x) at (slice_eq-Decides Decides-eqb _ _ s h) in
+      let d = rw (front-is y f before after m w, front-is y g before' after' n x) at (slice_eq-Decides Decides-eqb (take (m - 0) after) (take (n - 0) after') s h) in
       Decides-like s apart (ap writing) d

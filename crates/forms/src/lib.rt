@@ -1,4 +1,6 @@
 // The forms of a field: which bytes are lawful in a card's year, what they mean, and how that is written again.
+#![tactic(auto)]
+
 pub mod bytes;
 pub mod count;
 pub mod date;

@@ -1,4 +1,6 @@
 // The law of the halls, over all lists of calls on a card.
+#![tactic(auto)]
+
 ghost use Rattle.std.specs.Prelude.{◌≡◌};
 ghost use Rattle.history.specs.Laws.{HallsStand};
 

@@ -1,4 +1,6 @@
 // One lane: reads commands, a line each, answers each, and gives an account at the end.
+#![tactic(auto)]
+
 use commands::cut::trimmed;
 use session::Session;
 use std::io;

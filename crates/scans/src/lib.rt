@@ -1,4 +1,6 @@
 // Scans: the bytes of a label, read into elements under a book.
+#![tactic(auto)]
+
 pub mod element;
 pub mod fault;
 pub mod read;

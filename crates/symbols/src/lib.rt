@@ -1,4 +1,6 @@
 // Symbols as lists of values: a reader, and a writer that adds element by element.
+#![tactic(auto)]
+
 pub mod code;
 mod encode;
 pub mod fault;

@@ -4,7 +4,7 @@ use Rattle.books.specs.Entries.{ident_text, apart_from_all, listed}
 use Rattle.books.specs.Words.{word_entry}
 use Rattle.books.proofs.Walks.{apart-here, apart-later, apart-past}
 use Rattle.books.proofs.load.overlaps_any.Goals as goal
-use Rattle.books.proofs.load.overlaps_any.Goals.{in-Some+else-overlaps, in-default}
+use Rattle.books.proofs.load.overlaps_any.Goals.{in-Some+else-overlaps, in_default}
 
 pub returns-then-overlaps : goal.returns-then-overlaps
 returns-then-overlaps c =
@@ -23,7 +23,7 @@ loop-word-preserved c =
     elim c.match-read.branch [
       | in-Some+else-overlaps w ↦
           sym (apart-later word_entry ws i (get_or ws i 0) l (get_or_default ws i 0 (get_or ws i 0) l) text w.in-Some.entry w.in-Some.ensures w.if-overlaps.ensures) ∙ c.loop-word.invariant
-      | in-default w ↦ sym (apart-past word_entry ws i (get_or ws i 0) l (get_or_default ws i 0 (get_or ws i 0) l) text w.in_default.ensures) ∙ c.loop-word.invariant
+      | in_default w ↦ sym (apart-past word_entry ws i (get_or ws i 0) l (get_or_default ws i 0 (get_or ws i 0) l) text w.in_default.ensures) ∙ c.loop-word.invariant
     ]
 
 pub returns : goal.returns

@@ -3,7 +3,7 @@ use Rattle.std.proofs.lemmas.List.{at_drop_all}
 use Rattle.books.specs.Entries.{listed, found}
 use Rattle.books.proofs.Walks.{look-here, look-later, look-past}
 use Rattle.books.proofs.spelled.look.Goals as goal
-use Rattle.books.proofs.spelled.look.Goals.{in-Some+else-begins, in-default}
+use Rattle.books.proofs.spelled.look.Goals.{in-Some+else-begins, in_default}
 
 pub returns-then-begins : goal.returns-then-begins
 returns-then-begins g c =
@@ -18,7 +18,7 @@ loop-item-preserved g c =
           sym (look-later g.S.Spelled.spells c.args.items.now c.loop-item.item-index c.item-item.result c.loop-item-test.true c.item-item.is c.args.shown.now
           w.in-Some.entry w.in-Some.ensures w.if-begins.ensures)
           ∙ c.loop-item.invariant
-      | in-default w ↦
+      | in_default w ↦
           sym (look-past g.S.Spelled.spells c.args.items.now c.loop-item.item-index c.item-item.result c.loop-item-test.true c.item-item.is c.args.shown.now w.in_default.ensures)
           ∙ c.loop-item.invariant
     ]

@@ -9,7 +9,7 @@ returns-then-not-is_ascii_digit c =
 
 pub returns-in_err-n : goal.returns-in_err-n
 returns-in_err-n c =
-    c.from-residual.ensures
+    c.from_residual.ensures
     ∙ sym (past_most c.args.most c.loop-b.n c.args.bytes.now c.loop-b.b-index c.loop-b-test.true c.from.result (search rules) c.from.ensures c.in_err-n.ensures)
     ∙ c.loop-b.invariant.1 ∙ from_start c.args.most c.args.bytes.now (search rules)
 

@@ -18,7 +18,7 @@ returns-in_default-field_length g c =
 
 pub returns-in_err-reading : goal.returns-in_err-reading
 returns-in_err-reading g c =
-    let q = err_from_is_err_and c.from-residual.result c.from-residual.ensures.1 in
+    let q = err_from_is_err_and c.from_residual.result c.from_residual.ensures.1 in
     let e = c.in-Some.entry in
     let n = c.in-Some-field_length.n in
     let d = c.from-digits.ensures in

@@ -7,7 +7,7 @@ use Rattle.scans.proofs.element.next_element.Goals as goal
 
 pub returns-in_err-entry : goal.returns-in_err-entry
 returns-in_err-entry g c =
-    let q = err_from_is_err_and c.from-residual.result c.from-residual.ensures.1 in
+    let q = err_from_is_err_and c.from_residual.result c.from_residual.ensures.1 in
     let was = c.in_err-entry.ensures.is in
     let same = ap (front (g.B.Book.entries c.args.book.now) c.args.year.number c.args.at) (take_rest c.args.scan.now c.args.at) in
     rw (q.1, q.2) (c.if-at-scan.false, sym same ∙ was.0, was.1)

@@ -7,7 +7,7 @@ use Rattle.scans.proofs.read.count.Goals as goal
 
 pub returns-in_err-element : goal.returns-in_err-element
 returns-in_err-element g c =
-    let q = err_from_is_err_and c.from-residual.result c.from-residual.ensures.1 in
+    let q = err_from_is_err_and c.from_residual.result c.from_residual.ensures.1 in
     let was = c.in_err-element.ensures in
     rw (q.1, q.2) (left_fault (g.B.Book.entries c.args.book.now) c.args.year.number c.args.scan.now c.loop-element.at c.loop-element.n _ c.loop-element.invariant.2 _ was.0 was.1)
 

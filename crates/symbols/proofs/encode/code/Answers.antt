@@ -3,26 +3,26 @@ use Rattle.std.proofs.ByRecursion.{All-get_or}
 use Rattle.symbols.proofs.Aheads.{Text, all-text}
 use Rattle.symbols.proofs.Turns.{Pair, pair-at, at_pair, at_to_b, at_to_c, at_byte, to_other}
 use Rattle.symbols.proofs.encode.code.Goals as goal
-use Rattle.symbols.proofs.encode.code.Goals.{Then-two-ahead}
+use Rattle.symbols.proofs.encode.code.Goals.{Then-two_ahead}
 
 -- the two digits of a pair
-digits : (c : Then-two-ahead) → Pair c.args.element.now c.args.i
+digits : (c : Then-two_ahead) → Pair c.args.element.now c.args.i
 digits c = pair-at c.args.element.now c.args.i c.if-two_ahead.ensures
 
 pub overflow_sub-value : goal.overflow_sub-value
-overflow_sub-value c = (digits (goal.at.overflow-sub-value c).Then-two-ahead).low
+overflow_sub-value c = (digits (goal.at.overflow_sub-value c).Then-two_ahead).low
 
 pub overflow_mul-value : goal.overflow_mul-value
-overflow_mul-value c = let f = digits (goal.at.overflow-mul-value c).Then-two-ahead in search rules
+overflow_mul-value c = let f = digits (goal.at.overflow_mul-value c).Then-two_ahead in search rules
 
 pub bounds-element-i-then-two_ahead : goal.bounds-element-i-then-two_ahead
-bounds-element-i-then-two_ahead c = (digits (goal.at.bounds-element-i-then-two-ahead c).Then-two-ahead).within
+bounds-element-i-then-two_ahead c = (digits (goal.at.bounds-element-i-then-two_ahead c).Then-two_ahead).within
 
 pub overflow_sub-value-then-two_ahead : goal.overflow_sub-value-then-two_ahead
-overflow_sub-value-then-two_ahead c = (digits (goal.at.overflow-sub-value-then-two-ahead c).Then-two-ahead).low_next
+overflow_sub-value-then-two_ahead c = (digits (goal.at.overflow_sub-value-then-two_ahead c).Then-two_ahead).low_next
 
 pub overflow_add-value-then-two_ahead : goal.overflow_add-value-then-two_ahead
-overflow_add-value-then-two_ahead c = let f = digits (goal.at.overflow-add-value-then-two-ahead c).Then-two-ahead in search rules
+overflow_add-value-then-two_ahead c = let f = digits (goal.at.overflow_add-value-then-two_ahead c).Then-two_ahead in search rules
 
 pub overflow_sub-result : goal.overflow_sub-result
 overflow_sub-result c = (All-get_or Text c.args.element.now c.args.i 0 c.requires.inside (all-text c.args.element.now c.requires.text)).0
@@ -31,7 +31,7 @@ pub returns-then-two_ahead : goal.returns-then-two_ahead
 returns-then-two_ahead c =
     record {
       steps = at_pair _ c.args.element.now c.args.i c.in-C.is c.if-two_ahead.ensures;
-      inside = omega (arith, (digits (goal.at.returns-then-two-ahead c).Then-two-ahead).within);
+      inside = omega (arith, (digits (goal.at.returns-then-two_ahead c).Then-two_ahead).within);
     }
 
 pub returns-else-two_ahead : goal.returns-else-two_ahead

@@ -26,12 +26,12 @@ pub returns-then-buf-len : goal.returns-then-buf-len
 returns-then-buf-len c =
     (no_room (stage c.args.symbol) c.args.element.now (length c.args.buf.now) _ c.in-Ok.ensures.is (long (goal.at.returns-then-buf-len c).After-encode-n) c.if-buf-len.true, refl, refl)
 
-pub invariant-of-result : goal.invariant-of-result
-invariant-of-result c =
+pub invariant_of-result : goal.invariant_of-result
+invariant_of-result c =
     let f = values-few c.args.symbol.set c.args.element.now in
     let b = c.in-Ok.ensures.bytes in
-    let s = from_is (goal.at.invariant-of-result c).After-encode-n in
-    (omega arith, (omega (arith, c.encode-n.ensures.ends), (c.in-Ok.ensures.few, (c.check_on.ensures.small, tt))))
+    let s = from_is (goal.at.invariant_of-result c).After-encode-n in
+    record { some = omega arith; few = omega (arith, c.encode-n.ensures.ends); short = c.in-Ok.ensures.few; small = c.check_on.ensures.small }
 
 pub returns : goal.returns
 returns c =

@@ -1,17 +1,17 @@
 use Rattle.std.proofs.Common.{◌≡◌, ℕ, ◌+◌, ◌-◌, ◌<◌, ◌≤◌, sym, refl, ap, ◌∙◌, arith}
 use Rattle.cards.proofs.Puts.{Grown, card_grown}
 use Rattle.cards.proofs.card.Card.insert.Goals as goal
-use Rattle.cards.proofs.card.Card.insert.Goals.{After-make-room}
+use Rattle.cards.proofs.card.Card.insert.Goals.{After-make_room}
 
-more : (c : After-make-room) → Grown c.args.self.now.year.number c.args.self.now.len c.args.self.now.rows c.make_room.new.rows c.args.new
+more : (c : After-make_room) → Grown c.args.self.now.year.number c.args.self.now.len c.args.self.now.rows c.make_room.new.rows c.args.new
 more c =
     let s = c.args.self.now in
     card_grown s.year.number s.len c.seat_of-place.result s.rows c.make_room.new.rows c.args.new s.long c.requires.room s.kept c.seat_of-place.ensures.is c.seat_of-place.ensures.within c.requires.free c.requires.absent c.requires.lawful c.make_room.ensures
 
-pub invariant-of-self : goal.invariant-of-self
-invariant-of-self c =
+pub invariant_of-self : goal.invariant_of-self
+invariant_of-self c =
     let g = more c in
     (g.long, (omega (arith, c.requires.room), (g.kept, tt)))
 
 pub returns : goal.returns
-returns c = record { year = refl; held = (more (goal.at.returns c).After-make-room).held }
+returns c = record { year = refl; held = (more (goal.at.returns c).After-make_room).held }

@@ -9,7 +9,7 @@ use Rattle.cards.proofs.card.Card.look.Goals as goal
 pub returns-in_err-place : goal.returns-in_err-place
 returns-in_err-place c =
     let s = c.args.self.now in
-    rw c.from-residual.ensures (place_none c.args.ident.now 0 (first_held c.args.self.now.len c.args.self.now.rows) (ap (place_of c.args.ident.now 0) (sym (cut_front c.args.self.now.len c.args.self.now.rows)) ∙ sym c.in_err-place.ensures.is), refl)
+    rw c.from_residual.ensures (place_none c.args.ident.now 0 (first_held c.args.self.now.len c.args.self.now.rows) (ap (place_of c.args.ident.now 0) (sym (cut_front c.args.self.now.len c.args.self.now.rows)) ∙ sym c.in_err-place.ensures.is), refl)
 
 pub returns : goal.returns
 returns c =

@@ -34,13 +34,13 @@ row_is g c r e = e ∙ held_same _ _ _ _ (seen g c).3.4 (seen g c).3.5.value
 
 pub returns-in_err-element : goal.returns-in_err-element
 returns-in_err-element g c =
-    let q = err_from_is_err_and c.from-residual.result c.from-residual.ensures.1 in
+    let q = err_from_is_err_and c.from_residual.result c.from_residual.ensures.1 in
     let was = c.in_err-element.ensures in
     rw (q.1, q.2) (left_fault (g.B.Book.entries c.args.book.now) c.args.self.now.year.number c.args.scan.now c.loop-element.at c.loop-element.new (held_by c.loop-element.self) _ c.loop-element.invariant.4 _ was.0 was.1)
 
 pub row_of-requires : goal.row_of-requires
 row_of-requires g c =
-    let b = beside g (goal.at.row-of-requires g c).In-Some in
+    let b = beside g (goal.at.row_of-requires g c).In-Some in
     record { short = b.short; long = c.next_element.array_long; wrote = b.wrote }
 
 pub put-requires : goal.put-requires
@@ -52,8 +52,8 @@ put-requires g c =
 
 pub returns-in_err-new : goal.returns-in_err-new
 returns-in_err-new g c =
-    let q = err_from_is_err_and c.from-residual-in_err-new.result c.from-residual-in_err-new.ensures.1 in
-    let d = (goal.at.returns-in-err-new g c).In-Some in
+    let q = err_from_is_err_and c.from_residual-in_err-new.result c.from_residual-in_err-new.ensures.1 in
+    let d = (goal.at.returns-in_err-new g c).In-Some in
     let w = seen g d in
     let was = ap (put c.loop-element.at (held_by c.loop-element.self)) (sym (row_is g d c.row_of.result c.row_of.ensures)) ∙ c.in_err-new.ensures.is.0 in
     rw (q.1, q.2) (left_refused (g.B.Book.entries c.args.book.now) c.args.self.now.year.number c.args.scan.now c.loop-element.at c.loop-element.new (held_by c.loop-element.self) _ c.loop-element.invariant.4 w.3.0 w.3.1 _ w.0 w.3.2 was)

@@ -5,9 +5,9 @@ use Rattle.cards.specs.Rows.{first_held}
 use Rattle.cards.proofs.Places.{place_none}
 use Rattle.cards.proofs.Puts.{Shrunk, card_shrunk, cut_front}
 use Rattle.cards.proofs.card.Card.strike.Goals as goal
-use Rattle.cards.proofs.card.Card.strike.Goals.{After-close-up}
+use Rattle.cards.proofs.card.Card.strike.Goals.{After-close_up}
 
-less : (c : After-close-up) → Shrunk c.args.self.now.year.number c.args.self.now.len c.args.ident.now c.args.self.now.rows c.close_up.new.rows
+less : (c : After-close_up) → Shrunk c.args.self.now.year.number c.args.self.now.len c.args.ident.now c.args.self.now.rows c.close_up.new.rows
 less c =
     let s = c.args.self.now in
     card_shrunk s.year.number s.len c.in-Some.place c.args.ident.now s.rows c.close_up.new.rows s.long s.within s.kept c.in-Some.ensures.is c.in-Some.ensures.within c.close_up.ensures
@@ -18,12 +18,12 @@ returns-in_default c =
     let none = place_none c.args.ident.now 0 (first_held c.args.self.now.len c.args.self.now.rows) (ap (place_of c.args.ident.now 0) (sym (cut_front c.args.self.now.len c.args.self.now.rows)) ∙ sym c.in_default.ensures.is) in
     (cond-false _ _ _ (ap is_some none), refl)
 
-pub invariant-of-self : goal.invariant-of-self
-invariant-of-self c =
-    let g = less (goal.at.invariant-of-self c).After-close-up in
+pub invariant_of-self : goal.invariant_of-self
+invariant_of-self c =
+    let g = less (goal.at.invariant_of-self c).After-close_up in
     (g.long, (omega (arith, c.args.self.now.within), (g.kept, tt)))
 
 pub returns : goal.returns
 returns c =
-    let g = less (goal.at.returns c).After-close-up in
+    let g = less (goal.at.returns c).After-close_up in
     (cond-true _ _ _ g.there ∙ ap Ok (sym g.held), refl)

@@ -11,7 +11,7 @@ scan_is xs bytes n e = ap (take (3 + n - 0)) e ∙ ap (λ k. take k (mark ++ byt
 
 pub returns-in_err-scan : goal.returns-in_err-scan
 returns-in_err-scan g c =
-    let q = err_from_is_err_and c.from-residual-in_err-scan.result c.from-residual-in_err-scan.ensures.1 in
+    let q = err_from_is_err_and c.from_residual-in_err-scan.result c.from_residual-in_err-scan.ensures.1 in
     let was = c.in_err-scan.ensures.is in
     let es = g.B.Book.entries c.args.book.now in
     let got = ap (take_data (g.B.Book.entries c.args.book.now) (tally c.args.self.now)) c.in_ok-n.ensures.1 ∙ ap (λ s. in_symbol (scan_outcome (g.B.Book.entries c.args.book.now) (tally c.args.self.now) s)) (sym (scan_is _ _ c.in_ok-n.n c.behind_mark-scan.ensures)) ∙ ap in_symbol was.0 in

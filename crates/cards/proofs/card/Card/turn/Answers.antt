@@ -5,8 +5,8 @@ use Rattle.cards.proofs.Puts.{all_true, true_all, cut_front}
 use Rattle.cards.proofs.Turns.{regular-turn}
 use Rattle.cards.proofs.card.Card.turn.Goals as goal
 
-pub invariant-of-self : goal.invariant-of-self
-invariant-of-self c =
+pub invariant_of-self : goal.invariant_of-self
+invariant_of-self c =
     let s = c.args.self.now in
     let t = c.in-Some.year in
     let none = sym (c.in_default-first_outside.ensures ∙ ap (first_outside t.number 0) (cut_front s.len s.rows)) in
