@@ -11,7 +11,7 @@ more c =
 pub invariant_of-self : goal.invariant_of-self
 invariant_of-self c =
     let g = more c in
-    (g.long, (omega (arith, c.requires.room), (g.kept, tt)))
+    record { long = g.long; within = omega (arith, c.requires.room); kept = g.kept }
 
 pub returns : goal.returns
 returns c = record { year = refl; held = (more (goal.at.returns c).After-make_room).held }

@@ -21,7 +21,7 @@ returns-in_default c =
 pub invariant_of-self : goal.invariant_of-self
 invariant_of-self c =
     let g = less (goal.at.invariant_of-self c).After-close_up in
-    (g.long, (omega (arith, c.args.self.now.within), (g.kept, tt)))
+    record { long = g.long; within = omega (arith, c.args.self.now.within); kept = g.kept }
 
 pub returns : goal.returns
 returns c =

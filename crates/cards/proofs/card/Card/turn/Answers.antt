@@ -10,4 +10,4 @@ invariant_of-self c =
     let s = c.args.self.now in
     let t = c.in-Some.year in
     let none = sym (c.in_default-first_outside.ensures ∙ ap (first_outside t.number 0) (cut_front s.len s.rows)) in
-    (s.long, (s.within, (true_all _ (regular-turn s.year.number t.number (s.year.first, s.year.last) (t.first, t.last) (first_held s.len s.rows) (all_true _ s.kept) none), tt)))
+    record { long = s.long; within = s.within; kept = true_all _ (regular-turn s.year.number t.number (s.year.first, s.year.last) (t.first, t.last) (first_held s.len s.rows) (all_true _ s.kept) none) }
