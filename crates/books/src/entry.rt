@@ -25,12 +25,10 @@ pub struct Entry {
 
 // Entries are equal where all that they say is.
 impl PartialEq for Entry {
-    ghost eq = {
-        eq_of_both
+    ghost eq = { eq_of_both
         (eq_of_both
         (eq_of_both (on (λ e. e.ident) (eq_of_both (on (λ i. i.digits) nat_eq) (on (λ i. i.number) nat_eq))) (on (λ e. tag_of the_type e.form) nat_eq))
-        (on (λ e. e.shortest) nat_eq)) (on (λ e. e.longest) nat_eq)
-    };
+        (on (λ e. e.shortest) nat_eq)) (on (λ e. e.longest) nat_eq) };
 
     ghost laws = { Prim.search (comparing, rules) depth 12 };
 

@@ -1,11 +1,11 @@
 -- What a scan adds to what is held.
-use Rattle.std.proofs.Common.{◌≡◌, ℕ, zero, suc, ◌+◌, ◌-◌, ◌<◌, ◌≤◌, Bool, true, false, cond, T, ltb, ◌⊎◌, List, [], ◌∷◌, ◌++◌, length, drop, Some, None, Ok, Err, Option, Result, sym, refl, ap, ◌∙◌, subst, inl, inr, ⊎_elim, arith, length-drop}
+use Rattle.std.proofs.Common.{◌≡◌, ℕ, zero, suc, ◌+◌, ◌≤◌, false, cond, T, ltb, ◌⊎◌, List, [], ◌∷◌, length, drop, Some, None, Ok, Err, Option, Result, sym, refl, ap, ◌∙◌, subst, inl, inr, ⊎_elim, arith, length-drop}
 use Rattle.std.specs.Str.{bytes_eq}
 use Rattle.std.proofs.lemmas.Slice.Eq.{bytes_eq-Decides}
 use Rattle.std.proofs.lemmas.Bool.{cond_both, cond-true, cond-false, cases_Bool, both_ways}
 use Rattle.forms.specs.Values.{Meaning}
 use Rattle.books.specs.Texts.{starts}
-use Rattle.books.specs.Entries.{In, all_lawful, prefix_free}
+use Rattle.books.specs.Entries.{all_lawful, prefix_free}
 use Rattle.books.proofs.Fronts.{starts-front}
 use Rattle.books.specs.declared.entry.Entry.{Entry}
 use Rattle.scans.specs.declared.fault.ScanFault.{ScanFault}
@@ -14,9 +14,9 @@ use Rattle.scans.specs.Elements.{Element, Front, front, mark}
 use Rattle.scans.specs.Spelling.{Spells, Lawful}
 use Rattle.scans.proofs.Spelled.{Fronted, fronted}
 use Rattle.cards.specs.Codes.{same_meaning}
-use Rattle.cards.specs.Tallies.{Held, ident, precedes, insert, look, crossed, Tally, Put, again, added, joins, put}
+use Rattle.cards.specs.Tallies.{Held, ident, precedes, insert, look, crossed, Tally, Put, joins, put}
 use Rattle.cards.specs.Outcomes.{held_as, on_front, on_put, puts, scan_outcome}
-use Rattle.cards.specs.Adding.{Brings, Grows, Adds}
+use Rattle.cards.specs.Adding.{Grows, Adds}
 use Rattle.cards.proofs.Sames.{meaning-same}
 use Rattle.cards.proofs.Walks.{puts_none}
 

@@ -1,25 +1,22 @@
 -- What happens to the elements of a card when rows are put in and taken out.
-use Rattle.std.proofs.Common.{◌≡◌, ℕ, zero, suc, ◌+◌, ◌-◌, ◌<◌, ◌≤◌, min, Bool, true, false, cond, not, ◌&&◌, ◌||◌, T, ltb, List, [], ◌∷◌, ◌++◌, map, length, get_or, take, drop, is_some, Some, None, Ok, Err, Decides, Option, Result, sym, refl, ap, ◌∙◌, subst, ⊎_elim, arith, length-take}
+use Rattle.std.proofs.Common.{◌≡◌, ℕ, zero, suc, ◌+◌, ◌-◌, ◌<◌, ◌≤◌, min, Bool, true, false, cond, T, List, [], ◌∷◌, ◌++◌, map, length, get_or, take, drop, is_some, Some, None, Ok, Err, sym, refl, ap, ◌∙◌, subst, ⊎_elim, arith, length-take}
 use Rattle.std.specs.Str.{bytes_eq}
 use Rattle.std.proofs.lemmas.Slice.Eq.{bytes_eq-Decides}
-use Rattle.std.proofs.lemmas.List.{map-append, take-map, drop-map, length-map, get_or-map, get_or-take, get_or_default}
+use Rattle.std.proofs.lemmas.List.{map-append, take-map, drop-map, length-map, get_or-map, get_or-take}
 use Rattle.std.proofs.lemmas.Bool.{and_parts, or_parts, and_cases, both_ways, not-false, cond-true, cond-false, lt-ltb, le-ltb}
 use Rattle.std.proofs.lemmas.Bool.Decides.{same_from_decides}
 use Rattle.forms.specs.Values.{written}
-use Rattle.books.specs.Texts.{overlap}
-use Rattle.books.specs.Entries as entries
-use Rattle.books.specs.declared.entry.Entry.{Entry}
 use Rattle.scans.specs.declared.fault.ScanFault.TheVariants.{Clash, Differs, Full}
 use Rattle.cards.specs.declared.row.Row.{Row}
-use Rattle.cards.specs.Codes.{same_entry, same_meaning}
+use Rattle.cards.specs.Codes.{same_meaning}
 use Rattle.cards.specs.Rows.{held_in, first_held}
-use Rattle.cards.specs.Tallies.{Held, ident, insert, look, without, crossed, Put, again, added, joins, put}
+use Rattle.cards.specs.Tallies.{Held, ident, insert, look, without, crossed, joins, put}
 use Rattle.cards.specs.Places.{place_of, seat}
 use Rattle.cards.specs.Regular.{stands, all_stand, regular}
 use Rattle.cards.proofs.Moves.{take-opened, take-closed, length-opened, length-closed}
-use Rattle.cards.proofs.Places.{Under, place_under, place_none, insert-seat}
+use Rattle.cards.proofs.Places.{Under, place_under, insert-seat}
 use Rattle.cards.proofs.Regulars.{same_overlap, regular-insert, regular-without}
-use Rattle.cards.proofs.Sames.{entry-same, entry-itself, meaning-same, meaning-itself}
+use Rattle.cards.proofs.Sames.{entry-same, meaning-same, meaning-itself}
 use Rattle.cards.proofs.Standing.{same_written}
 
 -- rows as code cuts them off

@@ -1,5 +1,5 @@
 -- Elements that were read, as rows.
-use Rattle.std.proofs.Common.{◌≡◌, ℕ, ◌+◌, ◌<◌, ◌≤◌, Bool, true, false, cond, T, ltb, List, [], ◌∷◌, ◌++◌, length, take, drop, Some, None, Ok, Err, Option, Result, sym, refl, ap, ◌∙◌, subst, arith, length-append}
+use Rattle.std.proofs.Common.{◌≡◌, ℕ, ◌≤◌, true, T, ltb, List, length, take, drop, Some, None, Ok, Err, Option, Result, sym, ap, ◌∙◌, subst, arith, length-append}
 use Rattle.std.proofs.lemmas.List.{take_at}
 use Rattle.std.proofs.lemmas.Bool.{cond_both}
 use Rattle.forms.specs.Years.{InSpan}
@@ -8,11 +8,11 @@ use Rattle.forms.specs.declared.judge.Reading.{Reading}
 use Rattle.books.specs.Entries.{all_lawful, prefix_free}
 use Rattle.books.specs.declared.entry.Entry.{Entry}
 use Rattle.scans.specs.declared.fault.ScanFault.{ScanFault}
-use Rattle.scans.specs.Elements.{Element, Front, front}
+use Rattle.scans.specs.Elements.{Element, front}
 use Rattle.scans.specs.Reads as reads
 use Rattle.scans.proofs.Spelled.{fronted}
 use Rattle.cards.specs.Codes.{same_meaning}
-use Rattle.cards.specs.Tallies.{Held, look, insert, ident, crossed, Put, again, added, joins, put}
+use Rattle.cards.specs.Tallies.{Held, look, ident, crossed, Put, joins, put}
 use Rattle.cards.specs.Outcomes.{held_as}
 use Rattle.cards.specs.Regular.{stands}
 use Rattle.cards.proofs.Standing.{field_stands}

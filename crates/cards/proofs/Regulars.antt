@@ -1,13 +1,11 @@
 -- What is done to a card keeps its order, and its idents apart.
-use Rattle.std.proofs.Common.{◌≡◌, ℕ, Bool, true, false, cond, not, ◌&&◌, ◌||◌, ◌⊎◌, List, [], ◌∷◌, drop, Some, None, sym, refl, ap, ◌∙◌, subst, inl, inr, ⊎_elim, arith}
+use Rattle.std.proofs.Common.{◌≡◌, ℕ, Bool, true, false, not, ◌&&◌, ◌||◌, List, [], ◌∷◌, drop, Some, None, sym, refl, ap, ◌∙◌, ⊎_elim, arith}
 use Rattle.std.specs.Str.{bytes_eq}
 use Rattle.std.proofs.lemmas.Slice.Eq.{bytes_eq-Decides}
 use Rattle.std.proofs.lemmas.Bool.{and_parts, and_from, and_cases, or_parts, or_left, or_right, cases_Bool, both_ways, cond_both, cond-true, cond-false, not-true, not-false, not_from_false}
-use Rattle.books.specs.Texts.{starts, overlap, comes_first, rank}
+use Rattle.books.specs.Texts.{starts, overlap, rank}
 use Rattle.books.specs.Entries as entries
-use Rattle.books.specs.declared.entry.Entry.{Entry}
 use Rattle.books.proofs.Orders.{first_then, first_or_same}
-use Rattle.cards.specs.Codes.{same_entry}
 use Rattle.cards.specs.Tallies.{Held, ident, precedes, insert, look, without, crossed}
 use Rattle.cards.specs.Regular.{leads, ordered, stands, all_stand, regular}
 use Rattle.cards.proofs.Sames.{entry-same}

@@ -1,6 +1,5 @@
 -- Codes tell entries and values apart.
-use Rattle.std.proofs.Common.{◌≡◌, ℕ, zero, suc, Bool, true, false, cond, eqb, List, [], ◌∷◌, get_or, drop, sym, refl, ap, ◌∙◌}
-use Rattle.std.specs.Str.{bytes_eq}
+use Rattle.std.proofs.Common.{◌≡◌, ℕ, true, cond, eqb, List, get_or, drop, sym, refl, ap, ◌∙◌}
 use Rattle.std.proofs.lemmas.Slice.Eq.{bytes_eq-Decides}
 use Rattle.forms.specs.Values.{Meaning, text, key, date, stamp, fraction, whole}
 use Rattle.forms.specs.declared.kind.FormKind.{FormKind}

@@ -1,10 +1,9 @@
 -- Values that are lawful in a year.
-use Rattle.std.proofs.Common.{◌≡◌, ℕ, Bool, true, false, cond, not, ◌&&◌, List, [], ◌∷◌, is_some, Some, None, Option, sym, refl, ap, ◌∙◌, subst, arith}
+use Rattle.std.proofs.Common.{◌≡◌, ℕ, true, not, List, is_some, Some, None, Option, sym, refl, ap, ◌∙◌, arith}
 use Rattle.std.proofs.lemmas.Bool.{and_parts, and_from}
 use Rattle.forms.specs.Years.{InSpan}
-use Rattle.forms.specs.Values.{Meaning, written}
-use Rattle.forms.specs.Kinds.{kind_lawful, kind_fault, kind_meaning}
-use Rattle.forms.specs.declared.kind.FormKind.{FormKind}
+use Rattle.forms.specs.Values.{written}
+use Rattle.forms.specs.Kinds.{kind_lawful, kind_meaning}
 use Rattle.forms.specs.declared.fault.FieldFault.{FieldFault}
 use Rattle.forms.proofs.KindLaws.{kind_judged, kind_rewrites}
 use Rattle.books.specs.declared.entry.Entry.{Entry}

@@ -1,9 +1,7 @@
 -- A card keeps its values when its year is turned: a date that lies in the new year's span stays the day it is.
-use Rattle.std.proofs.Common.{◌≡◌, ℕ, ◌+◌, ◌<◌, ◌≤◌, Bool, true, false, cond, not, ◌&&◌, List, [], ◌∷◌, length, is_some, Some, None, sym, refl, ap, ◌∙◌, subst, ⊎_elim, arith}
+use Rattle.std.proofs.Common.{◌≡◌, ℕ, ◌+◌, Bool, true, false, not, ◌&&◌, List, [], ◌∷◌, is_some, Some, None, sym, refl, ap, ◌∙◌, ⊎_elim, arith}
 use Rattle.std.proofs.lemmas.Bool.{and_parts, and_from, leb-true, not-false, cases_Bool, cond-true, cond-false}
 use Rattle.forms.specs.Years.{InSpan}
-use Rattle.forms.specs.Bytes.{pair}
-use Rattle.forms.specs.Dates.{full_year, date_worth, stamp_worth}
 use Rattle.forms.specs.Values.{Meaning, written, date_means, stamp_means}
 use Rattle.forms.specs.Kinds.{kind_lawful, kind_fault, kind_meaning}
 use Rattle.forms.specs.declared.kind.FormKind.{FormKind}
@@ -11,10 +9,10 @@ use Rattle.forms.specs.declared.kind.FormKind.TheVariants.{Text, Digits, Key, Da
 use Rattle.forms.proofs.KindLaws.{kind_judged}
 use Rattle.forms.specs.DateLaws.{date_kept, stamp_kept, century_kept}
 use Rattle.cards.specs.Codes.{same_meaning}
-use Rattle.cards.specs.Tallies.{Held, near, outside, first_outside}
+use Rattle.cards.specs.Tallies.{Held, outside, first_outside}
 use Rattle.cards.specs.Regular.{stands, all_stand, regular}
 use Rattle.cards.proofs.Sames.{meaning-itself}
-use Rattle.cards.proofs.Standing.{Standing, standing}
+use Rattle.cards.proofs.Standing.{standing}
 
 -- a value stands as one of the form k
 abbrev stands_as : FormKind → ℕ → Meaning → Bool

@@ -1,6 +1,6 @@
 -- What is told of the elements that a card holds.
 use Rattle.std.specs.Prelude.{◌≡◌, ℕ, ◌<◌, ◌≤◌, List, ◌++◌, length, take, drop, Some, None, Option, slice_index_or}
-use Rattle.forms.specs.Values.{Meaning, told, written}
+use Rattle.forms.specs.Values.{told, written}
 use Rattle.forms.specs.declared.judge.Reading.{Reading}
 use Rattle.forms.specs.declared.value.Value.{Value}
 use Rattle.forms.specs.declared.value.Value.TheVariants.{Text, Key, Date, Stamp, Fraction, Whole}

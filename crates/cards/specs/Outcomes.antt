@@ -1,5 +1,5 @@
 -- What each call on a card comes to, from the book's entries, the tally and what the call was handed.
-use Rattle.std.specs.Prelude.{ℕ, zero, suc, ◌+◌, Bool, cond, List, [], ◌∷◌, ◌++◌, length, drop, is_some, Some, None, Ok, Err, Option, Result}
+use Rattle.std.specs.Prelude.{ℕ, zero, suc, ◌+◌, cond, List, [], ◌∷◌, ◌++◌, length, drop, is_some, Some, None, Ok, Err, Option, Result}
 use Rattle.forms.specs.Bytes.{within}
 use Rattle.books.specs.Texts.{starts}
 use Rattle.books.specs.declared.entry.Entry.{Entry}

@@ -1,5 +1,5 @@
 -- What every card keeps: canonical order, idents of which none equals or begins another, values that are lawful in its year.
-use Rattle.std.specs.Prelude.{ℕ, Bool, true, false, not, ◌&&◌, List, [], ◌∷◌, is_some}
+use Rattle.std.specs.Prelude.{ℕ, Bool, true, not, ◌&&◌, List, [], ◌∷◌, is_some}
 use Rattle.forms.specs.Values.{written}
 use Rattle.forms.specs.Kinds.{kind_fault, kind_meaning}
 use Rattle.books.specs.Texts.{overlap}

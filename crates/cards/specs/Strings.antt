@@ -1,5 +1,5 @@
 -- The canonical string of a card, and the symbols that print gives of it.
-use Rattle.std.specs.Prelude.{ℕ, ◌+◌, Bool, true, false, cond, not, List, [], ◌∷◌, ◌++◌, map, length, nat_le}
+use Rattle.std.specs.Prelude.{ℕ, cond, List, [], ◌∷◌, ◌++◌, map, length, nat_le}
 use Rattle.forms.specs.Values.{written}
 use Rattle.books.specs.Texts.{predefined}
 use Rattle.symbols.specs.Writing.{Stage, opening, fresh, next, closing, written_all}

@@ -1,7 +1,6 @@
 -- The tally of a card: what it means, a year and the entries held, each with a value, in canonical order.
-use Rattle.std.specs.Prelude.{ℕ, ◌+◌, Bool, true, false, cond, not, ◌&&◌, ◌||◌, List, [], ◌∷◌, length, Some, None, Ok, Err, Option, Result, nat_le, nat_lt}
+use Rattle.std.specs.Prelude.{ℕ, ◌+◌, Bool, false, cond, not, ◌&&◌, ◌||◌, List, [], ◌∷◌, length, Some, None, Ok, Err, Option, Result, nat_le, nat_lt}
 use Rattle.std.specs.Str.{bytes_eq}
-use Rattle.forms.specs.Bytes.{within}
 use Rattle.forms.specs.Values.{Meaning, text, key, date, stamp, fraction, whole}
 use Rattle.books.specs.Texts.{overlap, comes_first, rank}
 use Rattle.books.specs.Entries as entries

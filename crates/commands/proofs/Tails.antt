@@ -3,7 +3,7 @@ use Rattle.std.proofs.Common.{◌≡◌, ℕ, ◌<◌, true, false, eqb, List, [
 use mathlib.Core.List.{map-append}
 use Rattle.std.proofs.lemmas.Bool.{cases_Bool}
 use Rattle.commands.specs.Escapes.{before}
-use Rattle.commands.specs.Lines.{Request, Meaning, refusal}
+use Rattle.commands.specs.Lines.{Request, refusal}
 use Rattle.commands.specs.Meanings.{alone}
 use Rattle.commands.specs.Numerals.{number_up_to, only_number, number_or, all_numbers}
 use Rattle.commands.specs.Words.{word, tail, behind, pieces, arguments}

@@ -43,7 +43,7 @@ fn fields(rt: HostRuntime) -> Result<(), Fail> {
         ) => {
             let mut out = Vec::new(rt.alloc());
             show(&bytes, &mut out)?;
-            assert!(rt; out.as_slice() == b"^a\\FF b");
+            assert!(rt; out.as_slice() == b"^a\\FF b".as_slice());
             Ok(())
         }
         _ => Err(Fail::new("no field")),

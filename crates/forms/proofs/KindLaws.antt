@@ -1,10 +1,10 @@
 -- The laws of the forms by name, over what their fields mean.
-use Rattle.std.proofs.Common.{◌≡◌, ℕ, ◌≤◌, Bool, true, false, ◌&&◌, List, length, None, sym, refl, ap, ◌∙◌, subst, arith}
+use Rattle.std.proofs.Common.{◌≡◌, ℕ, ◌≤◌, Bool, true, false, List, length, sym, refl, ap, ◌∙◌, subst, arith}
 use Rattle.std.proofs.lemmas.Bool.{and_parts, and_from, le-leb, leb-true, eq-eqb, eqb-true}
 use Rattle.forms.specs.Years.{InSpan}
 use Rattle.forms.specs.Bytes.{allowed, digit, every}
 use Rattle.forms.specs.Laws.{Judged, Lengths}
-use Rattle.forms.specs.Values.{Meaning, written, date_means, stamp_means, fraction, whole}
+use Rattle.forms.specs.Values.{written, date_means, fraction, whole}
 use Rattle.forms.specs.Texts.{CharsLawful, chars_fault}
 use Rattle.forms.specs.Kinds.{kind_lawful, kind_fault, kind_meaning}
 use Rattle.forms.specs.declared.kind.FormKind.{FormKind}

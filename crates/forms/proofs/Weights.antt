@@ -1,11 +1,10 @@
 -- Weighted sums of digits.
-use Rattle.std.proofs.Common.{◌≡◌, ℕ, zero, suc, ◌+◌, ◌-◌, ◌*◌, ◌%◌, ◌<◌, ◌≤◌, Bool, true, cond, eqb, List, [], ◌∷◌, length, get_or, drop, sym, refl, ap, ◌∙◌, mul-le-mul, arith, length-drop}
+use Rattle.std.proofs.Common.{◌≡◌, ℕ, ◌+◌, ◌-◌, ◌*◌, ◌%◌, ◌<◌, ◌≤◌, true, eqb, List, [], ◌∷◌, length, get_or, drop, ap, ◌∙◌, mul-le-mul, arith, length-drop}
 use Rattle.std.proofs.lemmas.Bool.{and_parts, cond_both}
 use Rattle.std.proofs.lemmas.List.{at_drop_more}
 use Rattle.forms.specs.Bytes.{digit, every}
 use Rattle.forms.specs.Keys.{weight, weighted}
 use Rattle.forms.specs.Writings.{digit-range}
-use Rattle.forms.specs.Figures.{digit-in}
 
 pub weight-most : (r : ℕ) → weight r ≤ 3
 weight-most r = cond_both (eqb (r % 2) 1) 3 1 (λ w. w ≤ 3) (λ _. omega arith) (λ _. omega arith)

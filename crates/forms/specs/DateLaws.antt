@@ -1,5 +1,5 @@
 -- The laws of dates and stamps.
-use Rattle.std.specs.Prelude.{◌≡◌, ℕ, ◌+◌, ◌-◌, ◌*◌, ◌/◌, ◌%◌, ◌<◌, ◌≤◌, Bool, true, cond, ◌&&◌, ◌||◌, List, [], ◌∷◌, ◌++◌, length, drop, ◌==◌, slice_index, slice_index_or, refl}
+use Rattle.std.specs.Prelude.{◌≡◌, ℕ, ◌+◌, ◌-◌, ◌*◌, ◌/◌, ◌%◌, ◌<◌, ◌≤◌, true, cond, ◌||◌, List, ◌∷◌, ◌++◌, length, drop, ◌==◌, slice_index, slice_index_or, refl}
 use Rattle.std.proofs.Common.{ap, sym, subst, ◌∙◌, arith}
 use Rattle.std.proofs.lemmas.List.{drop_more, drop_all}
 use Rattle.std.proofs.lemmas.Bool.{and_from, ne_eqb, cond_both, cond-false}
@@ -9,7 +9,6 @@ use Rattle.forms.specs.declared.value.Stamp.{Stamp}
 use Rattle.forms.specs.Years.{InSpan}
 use Rattle.forms.specs.Laws.{Rewrites}
 use Rattle.forms.specs.Bytes.{digit, every, pair, two}
-use Rattle.forms.specs.Values.{dated}
 use Rattle.forms.specs.Dates.{full_year, leap, days_in, day_meant, date_lawful, date_worth, date_writing, stamp_lawful, stamp_worth, stamp_writing}
 use Rattle.forms.specs.Figures.{digit-in, digit-of}
 use Rattle.forms.specs.Writings.{every-allowed}

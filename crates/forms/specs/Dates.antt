@@ -1,5 +1,5 @@
 -- Dates, YYMMDD, and stamps, YYMMDDhhmm.
-use Rattle.std.specs.Prelude.{◌≡◌, ℕ, ◌+◌, ◌-◌, ◌*◌, ◌/◌, ◌%◌, ◌≤◌, Bool, true, cond, not, ◌&&◌, ◌||◌, List, ◌++◌, length, Option, ◌==◌, nat_le}
+use Rattle.std.specs.Prelude.{◌≡◌, ℕ, ◌+◌, ◌-◌, ◌*◌, ◌/◌, ◌%◌, ◌≤◌, Bool, true, cond, not, ◌&&◌, ◌||◌, List, length, Option, ◌==◌, nat_le}
 use Rattle.forms.specs.Bytes.{within, digit, every, pair}
 use Rattle.forms.specs.Verdicts.{first_of, unless, admitted}
 use Rattle.forms.specs.Values.{written, date_means, stamp_means}

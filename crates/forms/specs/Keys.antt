@@ -1,5 +1,5 @@
 -- Keys: 2 to 18 digits, of which the last is a check digit.
-use Rattle.std.specs.Prelude.{◌≡◌, ℕ, ◌+◌, ◌-◌, ◌*◌, ◌%◌, ◌≤◌, Bool, true, cond, List, [], ◌∷◌, ◌++◌, length, take, replicate, Option, ◌==◌}
+use Rattle.std.specs.Prelude.{◌≡◌, ℕ, ◌+◌, ◌-◌, ◌*◌, ◌%◌, ◌≤◌, true, cond, List, [], ◌∷◌, ◌++◌, length, take, replicate, Option, ◌==◌}
 use Rattle.forms.specs.Bytes.{digit, every}
 use Rattle.forms.specs.Verdicts.{first_of, unless, admitted}
 use Rattle.forms.specs.declared.fault.FieldFault.{FieldFault}

@@ -1,6 +1,6 @@
 -- The forms by name: what each bars, allows and means.
 use Rattle.std.specs.Prelude.{◌≡◌, ℕ, List, ◌++◌, length, drop, Some, None, Ok, Err, Option, Result}
-use Rattle.forms.specs.Values.{Meaning, text, key, date, stamp, fraction, whole, date_means, stamp_means, told, written}
+use Rattle.forms.specs.Values.{Meaning, text, key, fraction, whole, date_means, stamp_means, told, written}
 use Rattle.forms.specs.Texts.{text_lawful, text_fault, digits_lawful, digits_fault}
 use Rattle.forms.specs.Keys.{key_lawful, key_fault}
 use Rattle.forms.specs.Dates.{date_lawful, date_fault, date_worth, stamp_lawful, stamp_fault, stamp_worth}

@@ -1,6 +1,6 @@
 -- The laws of a measure.
-use Rattle.std.specs.Prelude.{◌≡◌, ℕ, zero, suc, ◌+◌, ◌-◌, ◌*◌, ◌/◌, ◌%◌, ◌^◌, ◌<◌, ◌≤◌, Bool, true, cond, ◌&&◌, List, [], ◌∷◌, length, drop, ◌==◌, refl}
-use Rattle.std.proofs.Common.{ap, sym, ◌∙◌, arith, mul-le-mul_left, le_of_mul-le-mul_right, length-drop}
+use Rattle.std.specs.Prelude.{◌≡◌, ℕ, zero, suc, ◌+◌, ◌-◌, ◌*◌, ◌/◌, ◌%◌, ◌^◌, ◌<◌, ◌≤◌, true, List, drop, ◌==◌, refl}
+use Rattle.std.proofs.Common.{ap, ◌∙◌, arith, mul-le-mul_left, le_of_mul-le-mul_right, length-drop}
 use Rattle.std.proofs.Math.Nat.{pow-le-pow_right}
 use Rattle.std.proofs.lemmas.Bool.{and_from, cond_both, eqb-true}
 use Rattle.std.proofs.lemmas.Bool.Decides.{nat_tests}

@@ -1,5 +1,5 @@
 -- What a value is, with its parts, and how it is written.
-use Rattle.std.specs.Prelude.{ℕ, ◌+◌, ◌-◌, ◌/◌, ◌%◌, ◌^◌, List, [], ◌∷◌, ◌++◌, length, take, decimal}
+use Rattle.std.specs.Prelude.{ℕ, ◌%◌, List, ◌++◌, take, decimal}
 use Rattle.forms.specs.Bytes.{two}
 use Rattle.forms.specs.Measures.{measure_writing}
 use Rattle.forms.specs.declared.value.Text.{Text}

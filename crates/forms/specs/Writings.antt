@@ -1,12 +1,12 @@
 -- What a form's laws follow from.
-use Rattle.std.specs.Prelude.{◌≡◌, ℕ, ◌-◌, ◌≤◌, Bool, true, ◌&&◌, ◌||◌, List, [], ◌∷◌, ◌++◌, length, take, drop, replicate, Decides, refl, nat_eq}
+use Rattle.std.specs.Prelude.{◌≡◌, ℕ, ◌-◌, ◌≤◌, Bool, true, List, [], ◌∷◌, ◌++◌, length, take, drop, replicate, Decides, refl, nat_eq}
 use Rattle.std.proofs.Common.{sym, ap, ◌∙◌, arith}
 use Rattle.std.specs.Cmp.Lexicographic.{pointwise}
 use Rattle.std.proofs.lemmas.List.{take_at, drop-replicate}
 use Rattle.std.proofs.lemmas.Slice.Eq.{slice_eq-Decides}
 use Rattle.std.proofs.lemmas.Bool.{and_parts, and_from, leb-true}
 use Rattle.std.proofs.lemmas.Bool.Decides.{Decides-like, nat_tests, Decides-eqb}
-use Rattle.forms.specs.Bytes.{within, allowed, digit, every}
+use Rattle.forms.specs.Bytes.{allowed, digit, every}
 use Rattle.forms.specs.Laws.{Rewrites, Lengths, Rewrote}
 
 -- what stands in front of zeros is taken again

@@ -1,5 +1,5 @@
 -- What the calls do to an open symbol and the buffer that it stands in.
-use Rattle.std.specs.Prelude.{◌≡◌, ℕ, List, [], length, take, Ok, Err, vec_items, Result, Vec}
+use Rattle.std.specs.Prelude.{◌≡◌, ℕ, List, [], length, Ok, Err, vec_items, Result, Vec}
 use Rattle.std.specs.declared.alloc.Global.{Global}
 use Rattle.symbols.specs.Encoding.{joined}
 use Rattle.symbols.specs.Reading.{decoded}

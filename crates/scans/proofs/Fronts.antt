@@ -1,5 +1,5 @@
 -- What stands at the front of some bytes.
-use Rattle.std.proofs.Common.{◌≡◌, ℕ, ◌+◌, ◌-◌, ◌<◌, ◌≤◌, Bool, true, false, cond, ◌&&◌, eqb, List, [], ◌∷◌, length, get_or, take, drop, IfSome, Some, None, Ok, Err, Option, Result, sym, refl, ap, ◌∙◌, arith, length-drop}
+use Rattle.std.proofs.Common.{◌≡◌, ℕ, ◌+◌, ◌-◌, ◌≤◌, true, List, [], ◌∷◌, length, get_or, take, drop, IfSome, Some, None, Ok, Err, Result, sym, refl, ap, ◌∙◌, arith, length-drop}
 use Rattle.std.proofs.lemmas.Bool.{and_parts, cond_both, ne_eqb}
 use Rattle.std.proofs.lemmas.List.{take_rest}
 use Rattle.scans.specs.declared.fault.ScanFault.{ScanFault}
@@ -11,7 +11,7 @@ use Rattle.books.specs.Texts.{starts}
 use Rattle.books.specs.Entries.{text, found}
 use Rattle.books.specs.declared.entry.Entry.{Entry}
 use Rattle.scans.specs.declared.fault.ScanFault.TheVariants.{Length, Field}
-use Rattle.scans.specs.Elements.{Element, Front, run, field_length, gap, front}
+use Rattle.scans.specs.Elements.{Front, run, field_length, gap, front}
 
 starts-within : (xs ys : List ℕ) → starts xs ys ≡ true → length xs ≤ length ys
 starts-within [] ys h = omega arith

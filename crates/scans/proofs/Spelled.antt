@@ -1,7 +1,6 @@
 -- A scan is read to a list of elements exactly where it spells them and each field is lawful.
-use Rattle.std.proofs.Common.{◌≡◌, ℕ, zero, suc, ◌+◌, ◌-◌, ◌/◌, ◌%◌, ◌^◌, ◌<◌, ◌≤◌, Bool, true, false, cond, not, ◌&&◌, T, eqb, leb, ◌⊎◌, List, [], ◌∷◌, ◌++◌, length, get_or, take, drop, Some, None, Ok, Err, Option, Result, sym, refl, ap, ◌∙◌, subst, inl, inr, ⊎_elim, append_assoc, arith, length-append, length-drop}
-use Rattle.std.specs.List.{prefix_len}
-use Rattle.std.proofs.lemmas.List.{take-append-drop, take_at, drop_at, drop-drop, length-take-le, drop_all}
+use Rattle.std.proofs.Common.{◌≡◌, ℕ, zero, suc, ◌+◌, ◌-◌, ◌/◌, ◌%◌, ◌^◌, ◌<◌, ◌≤◌, Bool, true, false, cond, not, ◌&&◌, T, eqb, leb, ◌⊎◌, List, [], ◌∷◌, ◌++◌, length, get_or, take, drop, Some, None, Ok, Err, Option, Result, sym, refl, ap, ◌∙◌, subst, inl, inr, ⊎_elim, arith, length-append, length-drop}
+use Rattle.std.proofs.lemmas.List.{take-append-drop, take_at, drop_at, drop-drop, length-take-le}
 use Rattle.std.proofs.lemmas.List.Sums.{prefix_len-le-length}
 use Rattle.std.proofs.lemmas.Bool.{and_parts, and_from, cond_both, cond-true, cond-false, cases_Bool, both_ways, leb-true, le-leb, eqb-true, eq-eqb, ne_eqb}
 use Rattle.forms.specs.Bytes.{within, every, last_digits}
@@ -10,15 +9,15 @@ use Rattle.forms.specs.declared.fault.FieldFault.{FieldFault}
 use Rattle.forms.specs.Figures.{length-last_digits}
 use Rattle.forms.proofs.KindLaws.{kind_judged}
 use Rattle.books.specs.Texts.{starts, predefined}
-use Rattle.books.specs.Entries.{text, found, In, all_lawful, prefix_free}
+use Rattle.books.specs.Entries.{text, found, all_lawful, prefix_free}
 use Rattle.books.specs.declared.entry.Entry.{Entry}
 use Rattle.books.proofs.Finds.{found_in, found-begins, finds_own}
 use Rattle.books.proofs.Fronts.{starts-front, starts-own}
 use Rattle.books.proofs.Lengths.{predefined-fixed}
 use Rattle.scans.specs.declared.fault.ScanFault.{ScanFault}
 use Rattle.scans.specs.declared.fault.ScanFault.TheVariants.{NoMark}
-use Rattle.scans.specs.Elements.{Element, Front, plain, run, field_length, gap, judged, at_field, at_entry, front, before, onward, elements, mark, scanned}
-use Rattle.scans.specs.Spelling.{Known, Gap, Spells, Lawful, Scan, ReadAsSpelled}
+use Rattle.scans.specs.Elements.{Element, Front, plain, run, field_length, gap, judged, at_field, at_entry, front, before, onward, elements, mark}
+use Rattle.scans.specs.Spelling.{Known, Gap, Spells, Lawful, ReadAsSpelled}
 use Rattle.scans.proofs.Fronts.{front-element}
 use Rattle.scans.proofs.Walks.{elements-none, elements-more}
 

@@ -3,7 +3,7 @@ use Rattle.std.proofs.Common.{◌≡◌, ℕ, zero, suc, ◌+◌, ◌-◌, ◌<�
 use Rattle.std.proofs.lemmas.List.{drop-drop, drop_all}
 use Rattle.books.specs.declared.entry.Entry.{Entry}
 use Rattle.scans.specs.declared.fault.ScanFault.{ScanFault}
-use Rattle.scans.specs.Elements.{Element, Front, front, before, onward, elements}
+use Rattle.scans.specs.Elements.{Element, front, before, onward, elements}
 use Rattle.scans.specs.Reads.{counted}
 
 module _ (es : List Entry) (y : ℕ) where

@@ -1,7 +1,6 @@
 -- Which bytes spell which elements: the grammar of a scan, without a reader's steps.
-use Rattle.std.specs.Prelude.{◌≡◌, ℕ, ◌≤◌, true, false, ◌⊎◌, List, [], ◌∷◌, ◌++◌, length, Ok, ◌≢◌, slice_index}
+use Rattle.std.specs.Prelude.{◌≡◌, ℕ, ◌≤◌, true, ◌⊎◌, List, [], ◌∷◌, ◌++◌, length, Ok, ◌≢◌, slice_index}
 use Rattle.forms.specs.Bytes.{every}
-use Rattle.forms.specs.Years.{InSpan}
 use Rattle.forms.specs.Kinds.{kind_lawful}
 use Rattle.books.specs.Texts.{predefined}
 use Rattle.books.specs.Entries.{text, In}

@@ -2,7 +2,7 @@ use Rattle.std.proofs.Common.{[], ◌∷◌, map, length, vec_items, sym, refl, 
 use Rattle.std.proofs.lemmas.Slice.{pushed}
 use Rattle.commands.specs.Numerals.{number_up_to}
 use Rattle.commands.specs.Words.{word, tail}
-use Rattle.commands.proofs.Tails.{fewer_bytes, no_number, more_numbers, no_more}
+use Rattle.commands.proofs.Tails.{fewer_bytes, no_number, more_numbers}
 use Rattle.commands.proofs.arguments.all_numbers.Goals as goal
 
 pub returns-in_default : goal.returns-in_default

@@ -1,4 +1,4 @@
-use Rattle.std.proofs.Common.{take, drop, ap, ◌∙◌, arith}
+use Rattle.std.proofs.Common.{arith}
 use Rattle.std.proofs.lemmas.List.Sums.{prefix_len-le-length}
 use Rattle.commands.specs.Words.{solid}
 use Rattle.commands.proofs.cut.split_word.Goals as goal

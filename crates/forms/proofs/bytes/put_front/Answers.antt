@@ -1,4 +1,4 @@
-use Rattle.std.proofs.Common.{◌≡◌, ℕ, min, length, ◌∙◌, arith, rules}
+use Rattle.std.proofs.Common.{◌≡◌, min, length, ◌∙◌, rules}
 use Rattle.forms.proofs.Fronts.{least_is, wrote_front}
 use Rattle.forms.proofs.bytes.put_front.Goals as goal
 

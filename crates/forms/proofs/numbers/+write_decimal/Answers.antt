@@ -1,4 +1,4 @@
-use Rattle.std.proofs.Common.{◌/◌, ◌^◌, ◌<◌, ◌≤◌, length, decimal, sym, ap, arith}
+use Rattle.std.proofs.Common.{◌/◌, length, sym, ap, arith}
 use Rattle.std.proofs.lemmas.Fmt.{decimal_digit}
 use Rattle.forms.specs.Figures.{decimal_one, decimal_longer, decimal_more, decimal_short}
 use Rattle.forms.proofs.numbers.+write_decimal.Goals as goal

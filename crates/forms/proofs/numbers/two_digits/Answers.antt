@@ -1,4 +1,4 @@
-use Rattle.std.proofs.Common.{ℕ, ◌+◌, ◌≤◌, get_or, refl, arith}
+use Rattle.std.proofs.Common.{◌+◌, refl, arith}
 use Rattle.forms.specs.Figures.{digit-in}
 use Rattle.forms.proofs.numbers.two_digits.Goals as goal
 

@@ -1,7 +1,7 @@
-use Rattle.std.proofs.Common.{◌≡◌, ℕ, ◌-◌, List, ◌++◌, length, replicate, Ok, ap, ◌∙◌}
+use Rattle.std.proofs.Common.{ℕ, List, length, Ok, ap, ◌∙◌}
 use Rattle.forms.specs.declared.value.Text.{Text}
 use Rattle.forms.specs.Verdicts.{answered}
-use Rattle.forms.specs.Texts.{chars_fault, chars_worth}
+use Rattle.forms.specs.Texts.{chars_worth}
 use Rattle.forms.specs.Writings.{put-zeros}
 use Rattle.forms.proofs.text.read_text.Goals as goal
 

@@ -1,4 +1,4 @@
-use Rattle.std.proofs.Common.{◌≡◌, ℕ, min, length, ap, ◌∙◌, rules}
+use Rattle.std.proofs.Common.{◌≡◌, min, length, ap, rules}
 use Rattle.forms.specs.Values.{text}
 use Rattle.forms.proofs.Fronts.{taken-front}
 use Rattle.forms.proofs.text.tell_text.Goals as goal

@@ -1,7 +1,6 @@
-use Rattle.std.proofs.Common.{◌≡◌, ℕ, ◌+◌, ◌-◌, ◌<◌, ◌≤◌, length, take, drop, Some, None, sym, refl, ap, ◌∙◌, arith}
+use Rattle.std.proofs.Common.{◌≡◌, ◌-◌, length, take, drop, None, sym, refl, ap, ◌∙◌, arith}
 use Rattle.std.proofs.lemmas.Result.{err_from_is_err_and}
-use Rattle.forms.specs.Kinds.{kind_fault}
-use Rattle.scans.specs.Elements.{run, field_length, gap}
+use Rattle.scans.specs.Elements.{run, field_length}
 use Rattle.scans.proofs.Fronts.{Cut, cut_long, behind, field_cut, fault_same, front-short, front-barred, front-element, length-behind, gap_same, front_same}
 use Rattle.scans.proofs.element.front_element.Goals as goal
 

@@ -1,4 +1,4 @@
-use Rattle.std.proofs.Common.{◌≡◌, ℕ, ◌+◌, ◌<◌, ◌≤◌, Ok, sym, subst, arith}
+use Rattle.std.proofs.Common.{◌+◌, Ok, sym, subst, arith}
 use Rattle.std.proofs.lemmas.Result.{err_from_is_err_and}
 use Rattle.scans.specs.Elements.{scanned}
 use Rattle.scans.specs.Reads.{Reads, counted}

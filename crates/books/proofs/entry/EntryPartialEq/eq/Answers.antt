@@ -1,4 +1,4 @@
-use Rattle.std.proofs.Common.{◌≡◌, Decides, sym, subst, refl}
+use Rattle.std.proofs.Common.{refl}
 use Rattle.books.proofs.Alike.{entries_alike}
 use Rattle.books.proofs.entry.EntryPartialEq.eq.Goals as goal
 

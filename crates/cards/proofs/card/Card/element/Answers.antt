@@ -1,10 +1,10 @@
-use Rattle.std.proofs.Common.{◌≡◌, ◌++◌, length, get_or, drop, sym, refl, ap, ◌∙◌, subst, arith}
-use Rattle.forms.specs.Values.{told, written}
+use Rattle.std.proofs.Common.{◌≡◌, ◌++◌, length, get_or, drop, sym, refl, ap, ◌∙◌, arith}
+use Rattle.forms.specs.Values.{written}
 use Rattle.cards.specs.Rows.{held_in, first_held}
 use Rattle.cards.specs.Tallies.{Held}
 use Rattle.cards.specs.declared.row.Row.{Row}
 use Rattle.cards.proofs.Puts.{first_long, first_at}
-use Rattle.cards.proofs.Tellings.{Told, row_told}
+use Rattle.cards.proofs.Tellings.{row_told}
 use Rattle.cards.proofs.card.Card.element.Goals as goal
 
 pub returns-then-place-self : goal.returns-then-place-self

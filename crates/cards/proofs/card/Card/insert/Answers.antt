@@ -1,4 +1,4 @@
-use Rattle.std.proofs.Common.{◌≡◌, ℕ, ◌+◌, ◌-◌, ◌<◌, ◌≤◌, sym, refl, ap, ◌∙◌, arith}
+use Rattle.std.proofs.Common.{refl, arith}
 use Rattle.cards.proofs.Puts.{Grown, card_grown}
 use Rattle.cards.proofs.card.Card.insert.Goals as goal
 use Rattle.cards.proofs.card.Card.insert.Goals.{After-make_room}

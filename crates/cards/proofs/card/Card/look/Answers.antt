@@ -1,5 +1,4 @@
-use Rattle.std.proofs.Common.{◌≡◌, ℕ, ◌-◌, ◌<◌, length, get_or, take, Some, None, sym, refl, ap, ◌∙◌, subst, arith, length-take}
-use Rattle.forms.specs.Values.{told}
+use Rattle.std.proofs.Common.{◌≡◌, ◌-◌, ◌<◌, get_or, Some, sym, refl, ap, ◌∙◌, arith, length-take}
 use Rattle.cards.specs.Rows.{held_in, first_held}
 use Rattle.cards.specs.Places.{place_of}
 use Rattle.cards.proofs.Places.{place_none, place_under}

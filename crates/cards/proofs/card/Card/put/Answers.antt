@@ -1,10 +1,10 @@
-use Rattle.std.proofs.Common.{◌≡◌, ℕ, ◌+◌, ◌-◌, ◌<◌, ◌≤◌, true, false, List, map, length, get_or, take, Some, None, Ok, Option, sym, refl, ap, ◌∙◌, arith, length-take}
+use Rattle.std.proofs.Common.{◌≡◌, ℕ, ◌-◌, ◌<◌, true, false, List, map, take, Some, None, Ok, Option, sym, refl, ap, ◌∙◌, arith, length-take}
 use Rattle.std.specs.Str.{bytes_eq}
 use Rattle.forms.specs.Values.{written}
 use Rattle.cards.specs.declared.row.Row.{Row}
 use Rattle.cards.specs.Rows.{held_in, first_held}
 use Rattle.cards.specs.Places.{place_of}
-use Rattle.cards.specs.Tallies.{Held, ident, look, crossed}
+use Rattle.cards.specs.Tallies.{ident, crossed}
 use Rattle.cards.proofs.Places.{place_none}
 use Rattle.cards.proofs.Puts.{all_true, cut_front, first_long, first_at, put-clash, put_full, put-added, put-again}
 use Rattle.cards.proofs.card.Card.put.Goals as goal

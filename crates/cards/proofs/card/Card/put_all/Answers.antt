@@ -1,9 +1,7 @@
-use Rattle.std.proofs.Common.{◌≡◌, ℕ, ◌+◌, ◌<◌, ◌≤◌, true, List, length, drop, Some, None, Ok, Err, Result, sym, refl, ap, ◌∙◌, subst, arith}
+use Rattle.std.proofs.Common.{◌≡◌, ◌+◌, drop, Some, Ok, sym, ap, ◌∙◌, subst, arith}
 use Rattle.std.proofs.lemmas.Result.{err_from_is_err_and}
 use Rattle.forms.specs.Values.{Meaning, told}
 use Rattle.books.specs.declared.entry.Entry.{Entry}
-use Rattle.scans.specs.declared.element.Element as read
-use Rattle.scans.specs.Elements.{Element, front}
 use Rattle.scans.specs.Reads.{Reads, meaning}
 use Rattle.cards.specs.declared.row.Row.{Row}
 use Rattle.cards.specs.Rows.{held_in}

@@ -1,4 +1,4 @@
-use Rattle.std.proofs.Common.{◌≡◌, ℕ, ◌+◌, ◌-◌, ◌<◌, ◌≤◌, is_some, Ok, sym, refl, ap, ◌∙◌, arith}
+use Rattle.std.proofs.Common.{is_some, Ok, sym, refl, ap, ◌∙◌, arith}
 use Rattle.std.proofs.lemmas.Bool.{cond-true, cond-false}
 use Rattle.cards.specs.Places.{place_of}
 use Rattle.cards.specs.Rows.{first_held}

@@ -1,4 +1,4 @@
-use Rattle.std.proofs.Common.{◌≡◌, sym, ap, ◌∙◌}
+use Rattle.std.proofs.Common.{sym, ap, ◌∙◌}
 use Rattle.cards.specs.Rows.{first_held}
 use Rattle.cards.specs.Tallies.{first_outside}
 use Rattle.cards.proofs.Puts.{all_true, true_all, cut_front}

@@ -1,7 +1,5 @@
-use Rattle.std.proofs.Common.{◌≡◌, ℕ, List, take, sym, refl, ap, ◌∙◌, subst}
+use Rattle.std.proofs.Common.{sym, ap, ◌∙◌}
 use Rattle.forms.specs.Values.{told, written}
-use Rattle.forms.specs.declared.value.Value.{Value}
-use Rattle.forms.specs.declared.value.Value.TheVariants.{Text}
 use Rattle.cards.proofs.Tellings.{told-other, other-lent, text-lent, row_told}
 use Rattle.cards.proofs.row.Row.tell.Goals as goal
 

@@ -1,4 +1,4 @@
-use Rattle.std.proofs.Common.{length, sym, ap, ◌∙◌, rules}
+use Rattle.std.proofs.Common.{rules}
 use Rattle.lane.proofs.Buffers.{begun}
 use Rattle.lane.proofs.label.OpenSymbol.begin.Goals as goal
 
