@@ -11,3 +11,9 @@ pub mod Walks
 pub mod Readings
 pub mod Adds
 pub mod Reasons
+pub mod Fitting
+pub mod Spells
+pub mod Pieces
+pub mod Fillings
+pub mod Prints
+pub mod Chosen

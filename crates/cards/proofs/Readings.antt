@@ -16,6 +16,7 @@ use Rattle.cards.specs.Tallies.{Held, look, ident, crossed, Put, joins, put}
 use Rattle.cards.specs.Outcomes.{held_as}
 use Rattle.cards.specs.Regular.{stands}
 use Rattle.cards.proofs.Standing.{field_stands}
+use Rattle.cards.proofs.Fitting.{Fits, field_fits}
 
 -- what was read has its writing in front
 pub record Beside (r : Reading) (xs : List ℕ) : Type 0 where
@@ -32,6 +33,12 @@ read_beside m before after r l h =
 -- an element that was read stands in its year
 pub read_stands : (es : List Entry) → T (all_lawful es) → T (prefix_free es) → (y p : ℕ) (s : List ℕ) (x : Element) (t : ℕ) → InSpan y → front es y p s ≡ Ok (record { element = x; taken = t }) → stands y (held_as y x) ≡ true
 read_stands es all free y p s x t h e = field_stands x.entry y x.field h (fronted es all free y s p (record { element = x; taken = t }) e).lawful
+
+-- and is written as its entry allows
+pub read_fits : (es : List Entry) → T (all_lawful es) → T (prefix_free es) → (y p : ℕ) (s : List ℕ) (x : Element) (t : ℕ) → InSpan y → front es y p s ≡ Ok (record { element = x; taken = t }) → Fits (held_as y x)
+read_fits es all free y p s x t h e =
+    let g = fronted es all free y s p (record { element = x; taken = t }) e in
+    field_fits y x.entry x.field h g.lawful g.known.least g.known.most
 
 -- an element brings at most one ident
 abbrev One : Result Put ScanFault → Type 0

@@ -6,9 +6,11 @@ mod change;
 pub mod fault;
 mod look;
 pub mod make;
+mod print;
 pub mod row;
 mod scan;
 mod search;
+mod strings;
 #[cfg(test)]
 mod tests;
 mod turn;

@@ -22,9 +22,9 @@ const UNUSED: Row = Row {
         shortest: 18,
         longest: 18,
     },
-    value: Value::Text { len: 0 },
-    text: [0; 30],
-    len: 0,
+    value: Value::Text { len: 18 },
+    text: [b'0'; 30],
+    len: 18,
 };
 
 impl Card {

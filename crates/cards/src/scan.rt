@@ -1,5 +1,6 @@
 // Scans and symbols that are put on a card.
 ghost use Rattle.std.specs.Prelude.{◌≡◌, ℕ, ◌≤◌, true, ◌++◌, length, take};
+ghost use Rattle.forms.specs.Bytes.{allowed, every};
 ghost use Rattle.forms.specs.Values.{told, written};
 ghost use Rattle.scans.specs.Elements.{mark};
 ghost use Rattle.cards.specs.Rows.{held_in};
@@ -23,6 +24,9 @@ fn row_of(entry: Entry, reading: Reading, text: [u8; 30]) -> Row
     requires short { reading.len ≤ 30 }
     requires long { length text ≡ 30 }
     requires wrote { take reading.len text ≡ written (told reading.value text) }
+    requires least { entry.shortest ≤ reading.len }
+    requires most { reading.len ≤ entry.longest }
+    requires plain { every allowed (take reading.len text) ≡ true }
     ensures { held_in result ≡ record { entry = entry; value = told reading.value text } }
 {
     Row {

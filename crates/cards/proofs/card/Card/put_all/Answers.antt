@@ -1,6 +1,7 @@
 use Rattle.std.proofs.Common.{◌≡◌, ◌+◌, drop, Some, Ok, sym, ap, ◌∙◌, subst, arith}
 use Rattle.std.proofs.lemmas.Result.{err_from_is_err_and}
-use Rattle.forms.specs.Values.{Meaning, told}
+use Rattle.forms.specs.Bytes.{allowed, every}
+use Rattle.forms.specs.Values.{Meaning, told, written}
 use Rattle.books.specs.declared.entry.Entry.{Entry}
 use Rattle.scans.specs.Reads.{Reads, meaning}
 use Rattle.cards.specs.declared.row.Row.{Row}
@@ -9,7 +10,7 @@ use Rattle.cards.specs.Cards.{held_by, tally}
 use Rattle.cards.specs.Tallies.{Held, put}
 use Rattle.cards.specs.Outcomes.{held_as, scan_outcome}
 use Rattle.cards.specs.Regular.{stands}
-use Rattle.cards.proofs.Readings.{Beside, read_beside, read_stands, put-few}
+use Rattle.cards.proofs.Readings.{Beside, read_beside, read_stands, read_fits, put-few}
 use Rattle.cards.proofs.Walks.{Left, left_more, left_fault, left_refused, left_none}
 use Rattle.cards.proofs.card.Card.put_all.Given.{Over}
 use Rattle.cards.proofs.card.Card.put_all.Goals as goal
@@ -38,8 +39,21 @@ returns-in_err-element g c =
 
 pub row_of-requires : goal.row_of-requires
 row_of-requires g c =
-    let b = beside g (goal.at.row_of-requires g c).In-Some in
-    record { short = b.short; long = c.next_element.array_long; wrote = b.wrote }
+    let d = (goal.at.row_of-requires g c).In-Some in
+    let b = beside g d in
+    let w = seen g d in
+    let f = read_fits (g.B.Book.entries c.args.book.now) (g.B.Book.lawful c.args.book.now) (g.B.Book.apart c.args.book.now) c.args.self.now.year.number c.loop-element.at (drop c.loop-element.at c.args.scan.now) w.3.0 w.3.1 (c.args.self.now.year.first, c.args.self.now.year.last) w.3.2 in
+    let few : c.in-Some.element.entry.shortest ≡ w.3.0.entry.shortest = ap (λ z. z.shortest) w.3.4 in
+    let many : c.in-Some.element.entry.longest ≡ w.3.0.entry.longest = ap (λ z. z.longest) w.3.4 in
+    let long = w.3.5.long in
+    record {
+      short = b.short;
+      long = c.next_element.array_long;
+      wrote = b.wrote;
+      least = omega (arith, f.least);
+      most = omega (arith, f.most);
+      plain = ap (every allowed) (b.wrote ∙ ap written w.3.5.value) ∙ f.text;
+    }
 
 pub put-requires : goal.put-requires
 put-requires g c =
