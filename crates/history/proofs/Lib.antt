@@ -8,3 +8,5 @@ pub mod Pieces
 pub mod Fills
 pub mod Halls
 pub mod Samples
+pub mod Steps
+pub mod Settlings

@@ -1,6 +1,6 @@
 -- Values that stand in a card's year: each is what its own writing means.
-use Rattle.std.proofs.Common.{◌≡◌, ℕ, ◌<◌, ◌≤◌, true, false, T, eqb, leb, List, length, refl, ap, ◌∙◌, arith}
-use Rattle.std.proofs.lemmas.Bool.{and_parts, eqb-true, leb-true, not-false}
+use Rattle.std.proofs.Common.{◌≡◌, ℕ, ◌<◌, ◌≤◌, true, false, List, length, ap, ◌∙◌, arith}
+use Rattle.std.proofs.lemmas.Bool.{and_parts, leb-true, not-false}
 use Rattle.forms.specs.Bytes.{allowed, digit, every, pair}
 use Rattle.forms.specs.Dates.{full_year}
 use Rattle.forms.specs.Kinds.{kind_lawful, kind_meaning}
@@ -9,12 +9,10 @@ use Rattle.forms.specs.Years.{InSpan}
 use Rattle.forms.specs.declared.kind.FormKind.{FormKind}
 use Rattle.forms.specs.declared.kind.FormKind.TheVariants as form
 use Rattle.forms.specs.DateLaws.{date_kept, stamp_kept, century_kept}
-use Rattle.forms.proofs.KindLaws.{kind_exact, kind_rewrites, kind_lengths}
-use Rattle.books.specs.Lawful.{form_allows}
+use Rattle.forms.proofs.KindLaws.{kind_rewrites}
 use Rattle.books.specs.declared.entry.Entry.{Entry}
-use Rattle.books.proofs.Finds.{holds}
-use Rattle.books.proofs.Lengths.{form_kept}
 use Rattle.cards.specs.Tallies.{Held, near, outside}
+use Rattle.cards.proofs.Fitting.{Fits, field_fits}
 
 -- in the year y the writing of the value is a lawful field of the form, and means the value
 pub record Means (k : FormKind) (y : ℕ) (v : Meaning) : Type 0 where
@@ -28,32 +26,18 @@ pub record Stands (y : ℕ) (x : Held) : Type 0 where
   pub least : x.entry.shortest ≤ length (written x.value)
   pub most : length (written x.value) ≤ x.entry.longest
 
+-- what stands is written as its entry allows
+pub fit : (y : ℕ) (x : Held) → Stands y x → Fits x
+fit y x s = record { text = s.text; least = s.least; most = s.most }
+
 -- A LAWFUL FIELD
-
-counts_from_one : (d s l : ℕ) → T (form_allows form.Count d s l) → s ≡ 1
-counts_from_one d s l t = eqb-true s 1 (and_parts (eqb s 1) (leb l 8) (holds (form_allows form.Count d s l) t)).0
-
--- the writing is as long as the field, or its form is one that a single byte may be a field of
-exact_or_one : (k : FormKind) (d s l n m : ℕ) → T (form_allows k d s l) → (kind_exact k ≡ true → m ≡ n) → s ≤ n → 1 ≤ m → s ≤ m
-exact_or_one form.Text d s l n m t e h o = let q = e refl in omega arith
-exact_or_one form.Digits d s l n m t e h o = let q = e refl in omega arith
-exact_or_one form.Key d s l n m t e h o = let q = e refl in omega arith
-exact_or_one form.Date d s l n m t e h o = let q = e refl in omega arith
-exact_or_one form.Stamp d s l n m t e h o = let q = e refl in omega arith
-exact_or_one form.Measure d s l n m t e h o = let q = e refl in omega arith
-exact_or_one form.Count d s l n m t e h o = let q = counts_from_one d s l t in omega arith
 
 -- what a lawful field means stands
 pub field_stands : (y : ℕ) (e : Entry) (f : List ℕ) → InSpan y → kind_lawful e.form y f → e.shortest ≤ length f → length f ≤ e.longest → Stands y (record { entry = e; value = kind_meaning e.form y f })
 field_stands y e f s l least most =
     let r = kind_rewrites e.form y f s l in
-    let n = kind_lengths e.form y f s l in
-    record {
-      means = record { lawful = r.again; same = r.same };
-      text = r.text;
-      least = exact_or_one e.form e.ident.digits e.shortest e.longest (length f) (length (written (kind_meaning e.form y f))) (form_kept e) n.same least n.some;
-      most = (let q = n.short in omega arith);
-    }
+    let g = field_fits y e f s l least most in
+    record { means = record { lawful = r.again; same = r.same }; text = g.text; least = g.least; most = g.most }
 
 -- ANOTHER YEAR
 

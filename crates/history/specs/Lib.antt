@@ -1,2 +1,4 @@
 pub mod Requests
+pub mod Calls
 pub mod Laws
+pub mod Settling

@@ -1,8 +1,12 @@
-// The law of the halls, over all lists of calls on a card.
+// Lists of calls on cards, and the law of the halls over all of them.
 #![tactic(auto)]
 
 ghost use Rattle.std.specs.Prelude.{◌≡◌};
 ghost use Rattle.history.specs.Laws.{HallsStand};
+
+pub mod call;
+pub mod replay;
+pub mod settle;
 
 // Bears the law: under every book, cards are filed alike exactly where they mean the same, a card's symbols
 // make it up again in any order, and what it says is read back under every other book that has its entries.

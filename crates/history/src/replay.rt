@@ -1,0 +1,32 @@
+// A card straight from its making, after a list of calls.
+ghost use Rattle.std.specs.Prelude.{◌≡◌};
+ghost use Rattle.cards.specs.Cards.{tally};
+ghost use Rattle.cards.specs.Tallies.{blank};
+ghost use Rattle.history.specs.Requests.{tally_of, refusals};
+ghost use Rattle.history.specs.Calls.{requests_of};
+
+use crate::call::{Call, obey};
+use books::book::Book;
+use cards::card::Card;
+
+// A card after a list of calls, and how many of them were refused.
+#[derive(Clone, Copy)]
+pub struct Replayed {
+    pub card: Card,
+    pub refused: usize,
+}
+
+// Makes a card and puts the calls to it, one by one. A refused call leaves the card's tally, and is counted.
+pub fn replay<B: Book>(book: &B, calls: &[Call<'_>]) -> Replayed
+    ensures tally { tally result.card ≡ tally_of (B.Book.entries book.now) (requests_of calls.now) }
+    ensures refused { result.refused ≡ refusals (B.Book.entries book.now) (blank 2000) (requests_of calls.now) }
+{
+    let mut card = Card::make();
+    let mut refused = 0;
+    for call in calls {
+        if !obey(&mut card, book, call) {
+            refused += 1;
+        }
+    }
+    Replayed { card, refused }
+}
