@@ -6,3 +6,4 @@ pub mod Finds
 pub mod Said
 pub mod Pieces
 pub mod Tails
+pub mod WithoutArguments

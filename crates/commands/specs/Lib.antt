@@ -1,5 +1,9 @@
+pub mod CallMeanings
+pub mod Calls
 pub mod Complaints
 pub mod Escapes
+pub mod HallLines
+pub mod Judgements
 pub mod Lines
 pub mod Meanings
 pub mod Names

@@ -5,8 +5,13 @@ use Rattle.forms.specs.declared.kind.FormKind.{FormKind}
 use Rattle.forms.specs.declared.kind.FormKind.TheVariants as form
 use Rattle.commands.specs.declared.name.BookName.{BookName}
 use Rattle.commands.specs.declared.name.BookName.TheVariants as book
+use Rattle.commands.specs.declared.hall.Hall.TheVariants.{First, Second}
+use Rattle.commands.specs.declared.name.CallWord.{CallWord}
+use Rattle.commands.specs.declared.name.CallWord.TheVariants as call
 use Rattle.commands.specs.declared.name.CommandWord.{CommandWord}
 use Rattle.commands.specs.declared.name.CommandWord.TheVariants as word
+use Rattle.commands.specs.declared.name.HallWord.{HallWord}
+use Rattle.commands.specs.declared.name.HallWord.TheVariants as hall
 
 -- the first of them that has that name
 abbrev pub first_named : {A : Type 0} → (A → List ℕ) → List A → List ℕ → Option A
@@ -51,3 +56,23 @@ command_name word.Seal = codes "seal"
 -- the command of that name
 abbrev pub command_named : List ℕ → Option CommandWord
 command_named bs = first_named command_name (word.Turn ∷ word.Field ∷ word.Read ∷ word.Scan ∷ word.Take ∷ word.Strike ∷ word.Wipe ∷ word.Look ∷ word.Book ∷ word.Begin ∷ word.Add ∷ word.Seal ∷ []) bs
+
+abbrev pub call_name : CallWord → List ℕ
+call_name call.Turn = codes "turn"
+call_name call.Scan = codes "scan"
+call_name call.Take = codes "take"
+call_name call.Strike = codes "strike"
+call_name call.Wipe = codes "wipe"
+
+-- the call of that name
+abbrev pub call_named : List ℕ → Option CallWord
+call_named bs = first_named call_name (call.Turn ∷ call.Scan ∷ call.Take ∷ call.Strike ∷ call.Wipe ∷ []) bs
+
+abbrev pub hall_word_name : HallWord → List ℕ
+hall_word_name (hall.Hall First) = codes "1"
+hall_word_name (hall.Hall Second) = codes "2"
+hall_word_name hall.Book = codes "book"
+
+-- the hall of that number, or the naming of a book
+abbrev pub hall_word_named : List ℕ → Option HallWord
+hall_word_named bs = first_named hall_word_name (hall.Hall First ∷ hall.Hall Second ∷ hall.Book ∷ []) bs

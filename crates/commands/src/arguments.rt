@@ -1,12 +1,25 @@
 // Numbers as arguments: behind each space of a tail stands one.
 ghost use Rattle.std.specs.Prelude.{◌≡◌, ℕ, List, map, IfOk};
 ghost use Rattle.std.specs.Option.{option_map};
+ghost use Rattle.commands.specs.CallMeanings.{without_arguments};
 ghost use Rattle.commands.specs.Numerals.{number_up_to, only_number, number_or, all_numbers};
 ghost use Rattle.commands.specs.Words.{arguments};
 
+use crate::complaint::Complaint;
 use crate::cut::{behind, split_word};
 use crate::number::number;
 use std::alloc::{AllocError, Global};
+
+// What takes nothing: a bad number, if there is an argument.
+pub(crate) fn without_arguments<T: Drop>(what: T, tail: &[u8]) -> Result<T, Complaint>
+    ensures { result ≡ without_arguments what (arguments tail.now) }
+{
+    if tail.is_empty() {
+        Ok(what)
+    } else {
+        Err(Complaint::BadNumber)
+    }
+}
 
 // The number of exactly one argument, if it is at most `most`.
 pub(crate) fn only_number(tail: &[u8], most: u64) -> Option<u64>

@@ -15,6 +15,8 @@ pub enum Complaint {
     BadNumber,
     // there is no open symbol to add to or to seal
     NoOpenSymbol,
+    // a book is named after the first call
+    TooLate,
 }
 
 impl Complaint {
@@ -27,6 +29,7 @@ impl Complaint {
             Complaint::BadEscape => "? bad escape",
             Complaint::BadNumber => "? bad number",
             Complaint::NoOpenSymbol => "? no open symbol",
+            Complaint::TooLate => "? too late",
         }
     }
 }

@@ -2,9 +2,12 @@
 #![tactic(auto)]
 
 mod arguments;
+mod book;
+mod call;
 pub mod complaint;
 pub mod cut;
 pub mod escape;
+pub mod hall;
 pub mod line;
 mod name;
 pub mod number;

@@ -2,6 +2,30 @@
 use crate::complaint::Complaint;
 use forms::kind::FormKind;
 
+// What a line can ask of a card.
+#[derive(Drop)]
+pub enum CardCall {
+    // put the elements of the bytes, which are a scan, on the card
+    Scan(Vec<u8>),
+    // put the elements of a symbol with those values on the card
+    Take(Vec<u8>),
+    // strike the ident of those bytes
+    Strike(Vec<u8>),
+    // empty the card
+    Wipe,
+    // let the card stand in the year of that number
+    Turn(u16),
+}
+
+// The book that a line names.
+#[derive(Drop)]
+pub enum BookChoice {
+    // the GS1 book
+    Gs1,
+    // the hall book that the words spell
+    Hall(Vec<u32>),
+}
+
 // What a line can ask for.
 #[derive(Drop)]
 pub enum Command {

@@ -1,7 +1,8 @@
 // Names in a line.
 ghost use Rattle.std.specs.Prelude.{◌≡◌, ℕ, List};
-ghost use Rattle.commands.specs.Names.{first_named, form_name, book_name, command_name};
+ghost use Rattle.commands.specs.Names.{first_named, form_name, book_name, command_name, call_name, hall_word_name};
 
+use crate::hall::Hall;
 use forms::kind::FormKind;
 
 // What has a name in a line.
@@ -94,6 +95,49 @@ impl Named for CommandWord {
             CommandWord::Begin => "begin",
             CommandWord::Add => "add",
             CommandWord::Seal => "seal",
+        }
+    }
+}
+
+// The words that calls of a card begin with.
+#[derive(Clone, Copy, Debug, PartialEq, Eq)]
+pub(crate) enum CallWord {
+    Turn,
+    Scan,
+    Take,
+    Strike,
+    Wipe,
+}
+
+impl Named for CallWord {
+    ghost named = { call_name };
+
+    fn name(self) -> &'static str {
+        match self {
+            CallWord::Turn => "turn",
+            CallWord::Scan => "scan",
+            CallWord::Take => "take",
+            CallWord::Strike => "strike",
+            CallWord::Wipe => "wipe",
+        }
+    }
+}
+
+// The words that lines for two halls begin with.
+#[derive(Clone, Copy, Debug, PartialEq, Eq)]
+pub(crate) enum HallWord {
+    Hall(Hall),
+    Book,
+}
+
+impl Named for HallWord {
+    ghost named = { hall_word_name };
+
+    fn name(self) -> &'static str {
+        match self {
+            HallWord::Hall(Hall::First) => "1",
+            HallWord::Hall(Hall::Second) => "2",
+            HallWord::Book => "book",
         }
     }
 }

@@ -1,6 +1,7 @@
 use crate::complaint::Complaint;
 use crate::cut::trimmed;
-use crate::line::{Command, Line};
+use crate::hall::{Hall, HallLine, parse_hall};
+use crate::line::{BookChoice, CardCall, Command, Line};
 use crate::number::number;
 use crate::parse::parse;
 use crate::show::show;
@@ -59,4 +60,47 @@ fn complaints(rt: HostRuntime) -> Result<(), Fail> {
         },
         _ => Err(Fail::new("no complaint")),
     }
+}
+
+// The answer to a line for two halls that is a complaint.
+fn hall_complaint(heap: Global, line: &[u8]) -> Result<Option<Complaint>, AllocError> {
+    match parse_hall(heap, line)? {
+        HallLine::Complaint(complaint) => Ok(Some(complaint)),
+        _ => Ok(None),
+    }
+}
+
+#[test]
+fn halls(rt: HostRuntime) -> Result<(), Fail> {
+    match parse_hall(rt.alloc(), b"2 turn 2026")? {
+        HallLine::Call {
+            hall,
+            call: CardCall::Turn(year),
+        } => {
+            assert_eq!(rt; hall, Hall::Second);
+            assert_eq!(rt; year, 2026);
+        }
+        _ => return Err(Fail::new("no call")),
+    }
+    match parse_hall(rt.alloc(), b"book gs1")? {
+        HallLine::Book(BookChoice::Gs1) => {}
+        _ => return Err(Fail::new("no book")),
+    }
+    assert_eq!(rt;
+        hall_complaint(rt.alloc(), b"1 look \\zz")?,
+        Some(Complaint::UnknownCommand)
+    );
+    assert_eq!(rt;
+        hall_complaint(rt.alloc(), b"1 ")?,
+        Some(Complaint::UnknownCommand)
+    );
+    assert_eq!(rt;
+        hall_complaint(rt.alloc(), b"1 scan \\zz")?,
+        Some(Complaint::BadEscape)
+    );
+    assert_eq!(rt;
+        hall_complaint(rt.alloc(), b"1 wipe 1")?,
+        Some(Complaint::BadNumber)
+    );
+    Ok(())
 }

@@ -13,3 +13,6 @@ returns-in-BadNumber c = sym (ap complaint_text c.in-BadNumber.is)
 
 pub returns-in-NoOpenSymbol : goal.returns-in-NoOpenSymbol
 returns-in-NoOpenSymbol c = sym (ap complaint_text c.in-NoOpenSymbol.is)
+
+pub returns-in-TooLate : goal.returns-in-TooLate
+returns-in-TooLate c = sym (ap complaint_text c.in-TooLate.is)
