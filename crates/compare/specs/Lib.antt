@@ -1,0 +1,3 @@
+pub mod Asked
+pub mod Relabels
+pub mod Verdicts
