@@ -7,7 +7,7 @@ use Rattle.commands.specs.declared.name.CallWord.{CallWord}
 use Rattle.commands.specs.declared.name.CallWord.TheVariants as card
 use Rattle.commands.specs.Calls.{Call, turn, scan, take, strike, wipe, Choice, gs1, hall}
 use Rattle.commands.specs.Escapes.{unescaped}
-use Rattle.commands.specs.Judgements.{Judged, given, Meaning, silent, spoken}
+use Rattle.commands.specs.Judgements.{Judged, given, LineMeaning, silent, spoken}
 use Rattle.commands.specs.Names.{book_named}
 use Rattle.commands.specs.Numerals.{only_number, all_numbers}
 use Rattle.commands.specs.Words.{word, tail, behind, arguments}
@@ -18,23 +18,23 @@ without_arguments ask [] = Ok ask
 without_arguments ask (p ∷ ps) = Err BadNumber
 
 -- what takes bytes, with that writing of them
-abbrev pub bytes_meant : {A : Type 0} → (List ℕ → A) → List ℕ → Judged A
-bytes_meant ask writing = given BadEscape ask (unescaped writing)
+abbrev pub bytes_asked : {A : Type 0} → (List ℕ → A) → List ℕ → Judged A
+bytes_asked ask writing = given BadEscape ask (unescaped writing)
 
 -- what `turn` means with that tail: one number, of 16 bits
-abbrev pub turn_meant : List ℕ → Judged Call
-turn_meant args = given BadNumber turn (only_number 65535 (arguments args))
+abbrev pub turn_asked : List ℕ → Judged Call
+turn_asked args = given BadNumber turn (only_number 65535 (arguments args))
 
 -- what `take` means with that tail: values, each of 8 bits
-abbrev pub take_meant : List ℕ → Judged Call
-take_meant args = given BadNumber take (all_numbers 255 (arguments args))
+abbrev pub take_asked : List ℕ → Judged Call
+take_asked args = given BadNumber take (all_numbers 255 (arguments args))
 
 -- what a call of a card means with that tail
 abbrev pub call_meant : CallWord → List ℕ → Judged Call
-call_meant card.Turn args = turn_meant args
-call_meant card.Scan args = bytes_meant scan (behind args)
-call_meant card.Take args = take_meant args
-call_meant card.Strike args = bytes_meant strike (behind args)
+call_meant card.Turn args = turn_asked args
+call_meant card.Scan args = bytes_asked scan (behind args)
+call_meant card.Take args = take_asked args
+call_meant card.Strike args = bytes_asked strike (behind args)
 call_meant card.Wipe args = without_arguments wipe (arguments args)
 
 -- the words of a hall's book in that tail, each of 32 bits
@@ -42,17 +42,17 @@ abbrev pub hall_book_meant : List ℕ → Judged Choice
 hall_book_meant args = given BadNumber hall (all_numbers 4294967295 (arguments args))
 
 -- the book of that name, with that tail
-abbrev pub book_of : Option BookName → List ℕ → Judged Choice
-book_of None args = Err UnknownCommand
-book_of (Some Gs1) args = without_arguments gs1 (arguments args)
-book_of (Some Hall) args = hall_book_meant args
+abbrev pub named_book : Option BookName → List ℕ → Judged Choice
+named_book None args = Err UnknownCommand
+named_book (Some Gs1) args = without_arguments gs1 (arguments args)
+named_book (Some Hall) args = hall_book_meant args
 
 -- what `book` means with that tail: the name of a book, and what belongs to it
-abbrev pub book_meant : List ℕ → Judged Choice
-book_meant args = book_of (book_named (word (behind args))) (tail (behind args))
+abbrev pub book_chosen : List ℕ → Judged Choice
+book_chosen args = named_book (book_named (word (behind args))) (tail (behind args))
 
 -- what a line means by a rule for its first word and its tail: an empty line and one that begins with '#' (35) get no answer;
 -- any other is a word and, from its first space on, a tail
-abbrev pub line_by : {A : Type 0} → (List ℕ → List ℕ → Judged A) → List ℕ → Meaning A
+abbrev pub line_by : {A : Type 0} → (List ℕ → List ℕ → Judged A) → List ℕ → LineMeaning A
 line_by rule [] = silent
 line_by rule (b ∷ bs) = cond (b == 35) silent (spoken (rule (word (b ∷ bs)) (tail (b ∷ bs))))

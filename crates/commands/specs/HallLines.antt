@@ -8,8 +8,8 @@ use Rattle.commands.specs.declared.name.CallWord.{CallWord}
 use Rattle.commands.specs.declared.name.HallWord.{HallWord}
 use Rattle.commands.specs.declared.name.HallWord.TheVariants as said
 use Rattle.commands.specs.Calls.{Call, Choice, call_asked, book_asked}
-use Rattle.commands.specs.Judgements.{Judged, judged, Meaning, silent, request, refusal}
-use Rattle.commands.specs.CallMeanings.{call_meant, book_meant, line_by}
+use Rattle.commands.specs.Judgements.{Judged, judged, LineMeaning, silent, request, refusal}
+use Rattle.commands.specs.CallMeanings.{call_meant, book_chosen, line_by}
 use Rattle.commands.specs.Names.{call_named, hall_word_named}
 use Rattle.commands.specs.Words.{word, tail, behind}
 
@@ -19,7 +19,7 @@ pub data HallRequest : Type 0 where
   book : Choice → HallRequest
 
 -- what a line of the code means
-abbrev pub hall_line_meaning : HallLine → Meaning HallRequest
+abbrev pub hall_line_meaning : HallLine → LineMeaning HallRequest
 hall_line_meaning line.Silent = silent
 hall_line_meaning (line.Call hall c) = request (call hall (call_asked c))
 hall_line_meaning (line.Book b) = request (book (book_asked b))
@@ -38,8 +38,8 @@ hall_call_meant hall args = hall_call_of hall (call_named (word (behind args))) 
 abbrev pub hall_word_meant : Option HallWord → List ℕ → Judged HallRequest
 hall_word_meant None args = Err UnknownCommand
 hall_word_meant (Some (said.Hall hall)) args = hall_call_meant hall args
-hall_word_meant (Some said.Book) args = judged book (book_meant args)
+hall_word_meant (Some said.Book) args = judged book (book_chosen args)
 
 -- what a line means: its word is `1`, `2` or `book`
-abbrev pub hall_meant : List ℕ → Meaning HallRequest
-hall_meant bs = line_by (λ name args. hall_word_meant (hall_word_named name) args) bs
+abbrev pub hall_line_meant : List ℕ → LineMeaning HallRequest
+hall_line_meant bs = line_by (λ name args. hall_word_meant (hall_word_named name) args) bs

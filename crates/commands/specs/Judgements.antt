@@ -17,12 +17,12 @@ given e ask None = Err e
 given e ask (Some x) = Ok (ask x)
 
 -- what a line means: no answer is due, it asks, or it is refused
-pub data Meaning (A : Type 0) : Type 0 where
-  silent : Meaning A
-  request : A → Meaning A
-  refusal : Complaint → Meaning A
+pub data LineMeaning (A : Type 0) : Type 0 where
+  silent : LineMeaning A
+  request : A → LineMeaning A
+  refusal : Complaint → LineMeaning A
 
 -- the meaning of a line that is judged so
-abbrev pub spoken : {A : Type 0} → Judged A → Meaning A
+abbrev pub spoken : {A : Type 0} → Judged A → LineMeaning A
 spoken (Ok a) = request a
 spoken (Err e) = refusal e

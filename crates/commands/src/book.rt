@@ -2,7 +2,7 @@
 ghost use Rattle.std.specs.Prelude.{◌≡◌, IfOk};
 ghost use Rattle.commands.specs.Calls.{book_asked};
 ghost use Rattle.commands.specs.Judgements.{judged};
-ghost use Rattle.commands.specs.CallMeanings.{hall_book_meant, book_meant};
+ghost use Rattle.commands.specs.CallMeanings.{hall_book_meant, book_chosen};
 
 use crate::arguments::{all_numbers, without_arguments};
 use crate::complaint::Complaint;
@@ -28,7 +28,7 @@ pub(crate) fn book_choice(
     heap: Global,
     tail: &[u8],
 ) -> Result<Result<BookChoice, Complaint>, AllocError>
-    ensures { IfOk result (λ got. judged book_asked got ≡ book_meant tail.now) }
+    ensures { IfOk result (λ got. judged book_asked got ≡ book_chosen tail.now) }
 {
     let (name, args) = split_word(behind(tail));
     match find(&BOOKS, name) {

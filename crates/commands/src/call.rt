@@ -2,7 +2,7 @@
 ghost use Rattle.std.specs.Prelude.{◌≡◌, IfOk};
 ghost use Rattle.commands.specs.Calls.{scan, strike, call_asked};
 ghost use Rattle.commands.specs.Judgements.{judged};
-ghost use Rattle.commands.specs.CallMeanings.{bytes_meant, turn_meant, take_meant, call_meant};
+ghost use Rattle.commands.specs.CallMeanings.{bytes_asked, turn_asked, take_asked, call_meant};
 
 use crate::arguments::{all_numbers, only_number, without_arguments};
 use crate::complaint::Complaint;
@@ -14,7 +14,7 @@ use std::alloc::{AllocError, Global};
 
 // The call `turn`: one number, of 16 bits.
 fn turn_call(tail: &[u8]) -> Result<CardCall, Complaint>
-    ensures { judged call_asked result ≡ turn_meant tail.now }
+    ensures { judged call_asked result ≡ turn_asked tail.now }
 {
     match only_number(tail, 65535) {
         Some(year) => Ok(CardCall::Turn(year as u16)),
@@ -24,7 +24,7 @@ fn turn_call(tail: &[u8]) -> Result<CardCall, Complaint>
 
 // The call `scan`, with that writing of its bytes.
 fn scan_call(heap: Global, writing: &[u8]) -> Result<Result<CardCall, Complaint>, AllocError>
-    ensures { IfOk result (λ got. judged call_asked got ≡ bytes_meant scan writing.now) }
+    ensures { IfOk result (λ got. judged call_asked got ≡ bytes_asked scan writing.now) }
 {
     match unescape(heap, writing)? {
         Ok(bytes) => Ok(Ok(CardCall::Scan(bytes))),
@@ -34,7 +34,7 @@ fn scan_call(heap: Global, writing: &[u8]) -> Result<Result<CardCall, Complaint>
 
 // The call `take`: a symbol's values, each of 8 bits.
 fn take_call(heap: Global, tail: &[u8]) -> Result<Result<CardCall, Complaint>, AllocError>
-    ensures { IfOk result (λ got. judged call_asked got ≡ take_meant tail.now) }
+    ensures { IfOk result (λ got. judged call_asked got ≡ take_asked tail.now) }
 {
     match all_numbers(heap, tail)? {
         Some(values) => Ok(Ok(CardCall::Take(values))),
@@ -44,7 +44,7 @@ fn take_call(heap: Global, tail: &[u8]) -> Result<Result<CardCall, Complaint>, A
 
 // The call `strike`, with that writing of its bytes.
 fn strike_call(heap: Global, writing: &[u8]) -> Result<Result<CardCall, Complaint>, AllocError>
-    ensures { IfOk result (λ got. judged call_asked got ≡ bytes_meant strike writing.now) }
+    ensures { IfOk result (λ got. judged call_asked got ≡ bytes_asked strike writing.now) }
 {
     match unescape(heap, writing)? {
         Ok(bytes) => Ok(Ok(CardCall::Strike(bytes))),

@@ -1,6 +1,6 @@
 // Lines for two halls.
 ghost use Rattle.std.specs.Prelude.{◌≡◌, IfOk};
-ghost use Rattle.commands.specs.HallLines.{hall_line_meaning, hall_call_meant, hall_word_meant, hall_meant};
+ghost use Rattle.commands.specs.HallLines.{hall_line_meaning, hall_call_meant, hall_word_meant, hall_line_meant};
 ghost use Rattle.commands.specs.Judgements.{spoken};
 ghost use Rattle.commands.specs.Names.{hall_word_named};
 
@@ -80,7 +80,7 @@ fn hall_line(heap: Global, word: &[u8], tail: &[u8]) -> Result<HallLine, AllocEr
 // An empty line and one that begins with `#` are silent. Any other is `1` or `2` and, behind a space, a call of the card
 // of that hall, or it is `book` and, behind a space, a book.
 pub fn parse_hall(heap: Global, line: &[u8]) -> Result<HallLine, AllocError>
-    ensures { IfOk result (λ got. hall_line_meaning got ≡ hall_meant line.now) }
+    ensures { IfOk result (λ got. hall_line_meaning got ≡ hall_line_meant line.now) }
 {
     if let [] | [b'#', ..] = line {
         return Ok(HallLine::Silent);
