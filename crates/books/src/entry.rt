@@ -5,7 +5,7 @@ ghost use Rattle.std.specs.Ordering.{eq_of_both, on};
 ghost use denote.Enum.Declared.{tag_of};
 ghost use Rattle.forms.specs.contracts.kind.FormKind.{the_type};
 ghost use Rattle.std.specs.Cmp.Rules.{comparing};
-ghost use Rattle.std.proofs.Common.{rules, arith};
+ghost use Rattle.std.proofs.Common.{rules};
 
 use crate::ident::Ident;
 use forms::kind::FormKind;

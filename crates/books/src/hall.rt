@@ -2,7 +2,7 @@
 ghost use Rattle.std.specs.Prelude.{◌≡◌, ◌≤◌, T, [], length, Some, None, MatchResult};
 ghost use Rattle.books.specs.Entries.{listed};
 ghost use Rattle.books.specs.Words.{word_entry, is_book};
-ghost use Rattle.books.specs.Sound.{all-lawful, book_free};
+ghost use Rattle.books.specs.Sound.{all_lawful_lem, book_free};
 ghost use Rattle.books.specs.Loads.{first_fault};
 
 use crate::book::Book;
@@ -53,7 +53,7 @@ impl<'a> HallBook<'a> {
 impl<'a> Book for HallBook<'a> {
     ghost entries = { λ b. listed word_entry b.words.now };
 
-    ghost lawful = { λ b. all-lawful (listed word_entry b.words.now) };
+    ghost lawful = { λ b. all_lawful_lem (listed word_entry b.words.now) };
 
     ghost apart = { λ b. book_free b.words.now b.ok };
 

@@ -4,7 +4,7 @@ ghost use Rattle.forms.specs.Bytes.{last_digits};
 ghost use Rattle.books.specs.Texts.{IsIdent, starts, overlap, comes_first, lead, whole, predefined, rank};
 ghost use Rattle.std.specs.Ordering.{eq_of_both, on};
 ghost use Rattle.std.specs.Cmp.Rules.{comparing};
-ghost use Rattle.std.proofs.Common.{rules, arith};
+ghost use Rattle.std.proofs.Common.{rules};
 
 // An ident of two to four digits. As text it is its digits, zeros in front where its number has fewer.
 #[derive(Clone, Copy, Debug)]

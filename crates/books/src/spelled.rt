@@ -9,6 +9,7 @@ use crate::entry::Entry;
 pub(crate) trait Spelled {
     ghost spells: { Self → Option TheEntry };
 
+    // The entry that is spelled, if it is lawful.
     fn read(&self) -> Option<Entry>
         ensures { result ≡ spells self.now };
 }

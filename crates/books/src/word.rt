@@ -8,6 +8,7 @@ use crate::row::Row;
 use crate::spelled::Spelled;
 use forms::kind::FormKind;
 
+// The form of a code from 0 to 6.
 fn form_of(code: u32) -> Option<FormKind>
     ensures { result ≡ form_of code }
 {

@@ -9,6 +9,7 @@ use forms::kind::FormKind;
 pub(crate) trait Named: Copy {
     ghost named: { Self → List ℕ };
 
+    // The name.
     fn name(self) -> &'static str
         ensures { result.now ≡ named self };
 }

@@ -10,6 +10,7 @@ use crate::fault::FieldFault;
 pub trait ByteClass {
     ghost holds: { ℕ → Bool };
 
+    // Whether the byte is in the class.
     fn has(b: u8) -> bool
         ensures { result ≡ holds b };
 }

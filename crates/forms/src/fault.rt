@@ -23,12 +23,15 @@ pub trait Fault {
 
     ghost placed: { Self → ℕ };
 
+    // The number, from the table of refusals.
     fn number(&self) -> u8
         ensures { result ≡ numbered self.now };
 
+    // The layer whose rule was broken.
     fn layer(&self) -> Layer
         ensures { result ≡ layered self.now };
 
+    // The place; for some refusals another number, as the table says.
     fn place(&self) -> u128
         ensures { result ≡ placed self.now };
 }

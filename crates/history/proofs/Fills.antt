@@ -6,7 +6,7 @@ use Rattle.cards.specs.Tallies.{Held}
 use Rattle.cards.specs.Strings.{piece, spelled, fill, runs}
 use Rattle.history.proofs.Sorts.{Within, Rising}
 use Rattle.history.proofs.Stands.{Stands}
-use Rattle.history.proofs.Spellings.{piece-long}
+use Rattle.cards.proofs.Pieces.{piece-long}
 
 -- LISTS OF LISTS
 

@@ -1,5 +1,5 @@
 -- Elements that are spelled are read one by one.
-use Rattle.std.proofs.Common.{◌≡◌, ℕ, ◌+◌, ◌≤◌, true, T, List, [], ◌∷◌, ◌++◌, length, drop, Ok, refl, ap, ◌∙◌, inl, inr, append_assoc, arith, length-append}
+use Rattle.std.proofs.Common.{◌≡◌, ℕ, ◌≤◌, true, T, List, [], ◌∷◌, ◌++◌, length, drop, Ok, refl, ap, ◌∙◌, inl, inr, append_assoc, arith, length-append}
 use Rattle.std.proofs.lemmas.Bool.{cond_both, and_parts, and_from}
 use Rattle.std.proofs.lemmas.Bool.Decides.{nat_tests}
 use Rattle.forms.specs.Bytes.{allowed, every}
@@ -10,10 +10,11 @@ use Rattle.books.specs.Entries.{In, all_lawful, prefix_free}
 use Rattle.books.specs.declared.entry.Entry.{Entry}
 use Rattle.scans.specs.Elements.{Element, plain, gap, front}
 use Rattle.scans.specs.Spelling.{Known, Gap}
-use Rattle.scans.proofs.Spelled.{text-long, text-first, gap-none, Takes, takes}
+use Rattle.scans.proofs.Spelled.{text-first, gap-none, Takes, takes}
 use Rattle.cards.specs.Tallies.{Held, ident}
 use Rattle.cards.specs.Outcomes.{held_as}
 use Rattle.cards.specs.Strings.{piece, parting, ending, spelled}
+use Rattle.cards.proofs.Pieces.{piece-long}
 use Rattle.history.proofs.Stands.{Stands}
 
 -- a text holds no separator
@@ -52,9 +53,6 @@ apart-is x (z ∷ zs) =
 first_is : (xs : List Held) → gap (spelled xs) ≡ 0
 first_is [] = refl
 first_is (x ∷ xs) = gap-none (spelled (x ∷ xs)) (text-first x.entry (spelled (x ∷ xs)) (written x.value ++ (behind x xs ++ spelled xs)) (spelled_is x xs))
-
-pub piece-long : (x : Held) → length (piece x) ≡ x.entry.ident.digits + length (written x.value)
-piece-long x = length-append (ident x) (written x.value) ∙ ap (λ n. n + length (written x.value)) (text-long x.entry)
 
 ending-length : (x : Held) (xs : List Held) → length xs ≤ length (ending x xs)
 ending-length x [] = omega arith

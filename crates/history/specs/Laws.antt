@@ -8,7 +8,7 @@ use Rattle.cards.specs.Outcomes.{scan_outcome, take_outcome}
 use Rattle.cards.specs.Strings.{canonical, runs, symbol_of, symbols}
 use Rattle.history.specs.Requests.{Request, take, tally_of, accepted, MeansSame}
 
--- cards of one year have the same canonical string exactly where they mean the same, however they came to be
+-- (a) cards of one year have the same canonical string exactly where they mean the same, however they came to be
 abbrev pub FiledAlike : List Entry → Type 0
 FiledAlike es =
     (p q : List Request) → (tally_of es p).year ≡ (tally_of es q).year
@@ -24,14 +24,14 @@ pub record Numbers (t : Tally) (ks : List ℕ) : Type 0 where
   pub below : (k : ℕ) → In k ks → k < length (symbols t)
   pub every : (k : ℕ) → k < length (symbols t) → In k ks
 
--- a card's symbols, taken on an empty card of its year in any order and each once or more, are all accepted,
+-- (b) a card's symbols, taken on an empty card of its year in any order and each once or more, are all accepted,
 -- and give a card that means the same
 abbrev pub Relabelled : List Entry → Type 0
 Relabelled es =
     (p q : List Request) (ks : List ℕ) → (tally_of es q).held ≡ [] → (tally_of es q).year ≡ (tally_of es p).year → Numbers (tally_of es p) ks
     → (accepted es (tally_of es q) (takes (tally_of es p) ks) ≡ true) × MeansSame (tally_of es (q ++ takes (tally_of es p) ks)) (tally_of es p)
 
--- the law of the halls
+-- the law of the halls: (a) and (b)
 abbrev pub LawOfTheHalls : List Entry → Type 0
 LawOfTheHalls es = FiledAlike es × Relabelled es
 
