@@ -1,0 +1,5 @@
+// Bytes in fixed memory.
+#![tactic(auto)]
+
+pub mod buffer;
+pub mod fill;

@@ -1,0 +1,4 @@
+// What can be asked of a card.
+#![tactic(auto)]
+
+pub mod call;
