@@ -1,4 +1,5 @@
-pub mod Fronts
+pub mod Decimals
 pub mod KindLaws
-pub mod Verdicts
+pub mod Padding
+pub mod Prefixes
 pub mod Weights

@@ -11,7 +11,7 @@ use Rattle.forms.specs.Laws.{Rewrites}
 use Rattle.forms.specs.Bytes.{digit, every, pair, two}
 use Rattle.forms.specs.Dates.{full_year, leap, days_in, day_meant, date_lawful, date_worth, date_writing, stamp_lawful, stamp_worth, stamp_writing}
 use Rattle.forms.specs.Figures.{digit-in, digit-of}
-use Rattle.forms.specs.Writings.{every-allowed}
+use Rattle.forms.specs.Writings.{every-allowed, rewrites_as_read}
 
 pub pair_small : (f : List ℕ) (i : ℕ) → i + 1 < length f → every digit f ≡ true → pair f i < 100
 pair_small f i l h = omega (arith, digit-in f i (omega arith) h, digit-in f (i + 1) l h)
@@ -99,6 +99,9 @@ stamp_as_read y f h p =
     let t2 : two (pair f 2) ++ (two (pair f 4) ++ (two (pair f 6) ++ two (pair f 8))) ≡ drop 2 f = ap (λ r. two (pair f 2) ++ r) t4 ∙ twos_back f 2 (omega arith) a in
     ap (λ n. two n ++ (two (pair f 2) ++ (two (pair f 4) ++ (two (pair f 6) ++ two (pair f 8))))) e0
     ∙ ap (λ r. two (pair f 0) ++ r) t2 ∙ twos_back f 0 (omega arith) a
+
+pub stamp_rewrites : (y : ℕ) (f : List ℕ) → InSpan y → stamp_lawful y f → Rewrites stamp_lawful stamp_worth stamp_writing y f
+stamp_rewrites y f s h = rewrites_as_read _ _ _ y f (stamp_as_read y f s h) h (every-allowed f h.all)
 
 -- only one year with those last two digits lies from 49 before to 50 after
 pub full-only : (y z : ℕ) → InSpan y → y ≤ z + 49 → z ≤ y + 50 → full_year y (z % 100) ≡ z

@@ -1,5 +1,5 @@
 -- Dates, YYMMDD, and stamps, YYMMDDhhmm.
-use Rattle.std.specs.Prelude.{◌≡◌, ℕ, ◌+◌, ◌-◌, ◌*◌, ◌/◌, ◌%◌, ◌≤◌, Bool, true, cond, not, ◌&&◌, ◌||◌, List, length, Option, ◌==◌, nat_le}
+use Rattle.std.specs.Prelude.{◌≡◌, ℕ, ◌+◌, ◌-◌, ◌*◌, ◌/◌, ◌%◌, ◌≤◌, Bool, true, cond, not, ◌&&◌, ◌||◌, List, length, Some, None, Option, ◌==◌, nat_le}
 use Rattle.forms.specs.Bytes.{within, digit, every, pair}
 use Rattle.forms.specs.Verdicts.{first_of, unless, admitted}
 use Rattle.forms.specs.Values.{written, date_means, stamp_means}
@@ -47,6 +47,11 @@ pub record DateLawful (y : ℕ) (f : List ℕ) : Type 0 where
 
 abbrev pub date_lawful : ℕ → List ℕ → Type 0
 date_lawful y f = DateLawful y f
+
+-- the date that is written, its day as written, if there is such a day
+abbrev pub date_read : ℕ → List ℕ → Option Date
+date_read y f =
+    cond (day_stands (full_year y (pair f 0)) (pair f 2) (pair f 4)) (Some (record { year = full_year y (pair f 0); month = pair f 2; day = pair f 4 })) None
 
 abbrev pub date_fault : ℕ → ℕ → List ℕ → Option FieldFault
 date_fault y at f =

@@ -66,7 +66,7 @@ pub length-last_digits : (k n : ℕ) → length (last_digits k n) ≡ k
 length-last_digits zero n = refl
 length-last_digits (suc k) n = ap suc (length-last_digits k n)
 
-pow_some : (k : ℕ) → 0 < 10 ^ k
+pub pow_some : (k : ℕ) → 0 < 10 ^ k
 pow_some k = pow-le-pow_right {n = 10} (omega arith) {i = 0} {j = k} (omega arith)
 
 -- one digit more in front of a number

@@ -6,6 +6,9 @@ pub mod Keys
 pub mod Kinds
 pub mod Laws
 pub mod Measures
+pub mod Packs
+pub mod Printed
+pub mod Refusals
 pub mod Texts
 pub mod Values
 pub mod Verdicts
@@ -14,8 +17,5 @@ pub mod CountLaws
 pub mod Figures
 pub mod Writings
 pub mod DateLaws
-pub mod DigitsIsFormLemmas
-pub mod KeyIsFormLemmas
 pub mod MeasureLaws
-pub mod StampIsFormLemmas
-pub mod TextIsFormLemmas
+pub mod PackedLaws

@@ -1,9 +1,10 @@
 -- Texts and digits: 1 to 30 bytes of a class, written as read.
-use Rattle.std.specs.Prelude.{◌≡◌, ℕ, ◌-◌, ◌≤◌, Bool, true, List, ◌++◌, length, take, replicate, Option}
+use Rattle.std.specs.Prelude.{◌≡◌, ℕ, ◌≤◌, Bool, true, List, length, Option}
 use Rattle.forms.specs.Bytes.{allowed, digit, every}
 use Rattle.forms.specs.Verdicts.{admitted}
 use Rattle.forms.specs.declared.fault.FieldFault.{FieldFault}
-use Rattle.forms.specs.declared.value.Text.{Text}
+use Rattle.forms.specs.Packs.{packed, unpacked}
+use Rattle.forms.specs.declared.packed.Packed.{Packed}
 
 pub record CharsLawful (p : ℕ → Bool) (f : List ℕ) : Type 0 where
   pub some : 1 ≤ length f
@@ -13,12 +14,8 @@ pub record CharsLawful (p : ℕ → Bool) (f : List ℕ) : Type 0 where
 abbrev pub chars_fault : (ℕ → Bool) → ℕ → List ℕ → Option FieldFault
 chars_fault p at f = admitted p 1 30 at f
 
--- the bytes are the value: a text holds them in front of zeros
-abbrev pub chars_worth : List ℕ → Text
-chars_worth f = record { bytes = f ++ replicate (30 - length f) 0; len = length f }
-
-abbrev pub text_writing : Text → List ℕ
-text_writing t = take t.len t.bytes
+abbrev pub text_writing : Packed 30 → List ℕ
+text_writing t = unpacked t
 
 abbrev pub text_lawful : ℕ → List ℕ → Type 0
 text_lawful y f = CharsLawful allowed f
@@ -32,5 +29,6 @@ digits_lawful y f = CharsLawful digit f
 abbrev pub digits_fault : ℕ → ℕ → List ℕ → Option FieldFault
 digits_fault y at f = chars_fault digit at f
 
-abbrev pub text_worth : ℕ → List ℕ → Text
-text_worth y f = chars_worth f
+-- the bytes are the value
+abbrev pub text_worth : ℕ → List ℕ → Packed 30
+text_worth y f = packed 30 f

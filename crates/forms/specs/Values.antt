@@ -2,8 +2,8 @@
 use Rattle.std.specs.Prelude.{ℕ, ◌%◌, List, ◌++◌, take, decimal}
 use Rattle.forms.specs.Bytes.{two}
 use Rattle.forms.specs.Measures.{measure_writing}
-use Rattle.forms.specs.declared.value.Text.{Text}
-use Rattle.forms.specs.declared.value.Key.{Key}
+use Rattle.forms.specs.Packs.{unpacked}
+use Rattle.forms.specs.declared.packed.Packed.{Packed}
 use Rattle.forms.specs.declared.value.Date.{Date}
 use Rattle.forms.specs.declared.value.Stamp.{Stamp}
 use Rattle.forms.specs.declared.value.Value as value
@@ -32,11 +32,11 @@ written (fraction n) = measure_writing n
 written (whole n) = decimal n
 
 -- what the code's values mean
-abbrev pub text_means : Text → Meaning
-text_means t = text (take t.len t.bytes)
+abbrev pub text_means : Packed 30 → Meaning
+text_means t = text (unpacked t)
 
-abbrev pub key_means : Key → Meaning
-key_means k = key (take k.len k.digits)
+abbrev pub key_means : Packed 18 → Meaning
+key_means k = key (unpacked k)
 
 abbrev pub date_means : Date → Meaning
 date_means d = date d.year d.month d.day

@@ -8,6 +8,7 @@ use Rattle.std.proofs.lemmas.Bool.{and_parts, and_from, leb-true}
 use Rattle.std.proofs.lemmas.Bool.Decides.{Decides-like, nat_tests, Decides-eqb}
 use Rattle.forms.specs.Bytes.{allowed, digit, every}
 use Rattle.forms.specs.Laws.{Rewrites, Lengths, Rewrote}
+use Rattle.forms.specs.Packs.{packed, unpacked}
 
 -- what stands in front of zeros is taken again
 pub taken_back : (f : List ℕ) (n : ℕ) → take (length f) (f ++ replicate n 0) ≡ f
@@ -19,6 +20,10 @@ put-zeros f out n e = e ∙ ap (λ ys. f ++ ys) (drop-replicate {X = ℕ} (lengt
 
 pub digit-range : (b : ℕ) → digit b ≡ true → (48 ≤ b) × (b ≤ 57)
 digit-range b h = let p = and_parts _ _ h in (leb-true 48 b p.0, leb-true b 57 p.1)
+
+-- what is packed is taken out again
+pub taken_out : (n : ℕ) (f : List ℕ) → unpacked (packed n f) ≡ f
+taken_out n f = taken_back f (n - length f)
 
 digit-allowed : (b : ℕ) → digit b ≡ true → allowed b ≡ true
 digit-allowed b h = let r = digit-range b h in grind (arith, nat_tests)
@@ -41,17 +46,23 @@ module _ {V : Type 0} (lawful : ℕ → List ℕ → Type 0) (worth : ℕ → Li
   lengths_as_read y f e h = rw e (record { some = h; short = omega arith; same = λ _. refl })
 
   -- the first n bytes are the writing
-  pub front-is : (y : ℕ) (f before after : List ℕ) (n : ℕ) → Rewrote lawful worth writing y f before after n → take (n - 0) after ≡ writing (worth y f)
+  pub front-is : (y : ℕ) (f before after : List ℕ) (n : ℕ) → Rewrote lawful worth writing y f before after n → take n after ≡ writing (worth y f)
   front-is y f before after n w =
-      let e : n - 0 ≡ n = omega arith in
-      rw (e, w.wrote) (take_at (writing (worth y f)) (drop n before) n (sym w.long))
+      rw w.wrote (take_at (writing (worth y f)) (drop n before) n (sym w.long))
 
   pub decides_same : (y : ℕ) (f g : List ℕ) (before after before' after' : List ℕ) (m n : ℕ)
       → Rewrote lawful worth writing y f before after m
       → Rewrote lawful worth writing y g before' after' n
       → (writing (worth y f) ≡ writing (worth y g) → worth y f ≡ worth y g)
-      → (s : Bool) → s ≡ pointwise nat_eq (take (m - 0) after) (take (n - 0) after')
+      → (s : Bool) → s ≡ pointwise nat_eq (take m after) (take n after')
       → Decides s (worth y f ≡ worth y g)
   decides_same y f g before after before' after' m n w x apart s h =
-      let d = rw (front-is y f before after m w, front-is y g before' after' n x) at (slice_eq-Decides Decides-eqb (take (m - 0) after) (take (n - 0) after') s h) in
+      let d = rw (front-is y f before after m w, front-is y g before' after' n x) at (slice_eq-Decides Decides-eqb (take m after) (take n after') s h) in
       Decides-like s apart (ap writing) d
+
+-- the laws of a field whose bytes are its value
+pub packed_rewrites : (n : ℕ) (lawful : ℕ → List ℕ → Type 0) (y : ℕ) (f : List ℕ) → lawful y f → every allowed f ≡ true → Rewrites lawful (λ y f. packed n f) unpacked y f
+packed_rewrites n lawful y f = rewrites_as_read lawful (λ y f. packed n f) unpacked y f (taken_out n f)
+
+pub packed_lengths : (n : ℕ) (lawful : ℕ → List ℕ → Type 0) (y : ℕ) (f : List ℕ) → 1 ≤ length f → Lengths true (length f) (length (unpacked (packed n f)))
+packed_lengths n lawful y f = lengths_as_read lawful (λ y f. packed n f) unpacked y f (taken_out n f)

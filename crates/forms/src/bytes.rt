@@ -1,10 +1,7 @@
 // Classes of bytes, and bytes put into a buffer.
-ghost use Rattle.std.specs.Prelude.{◌≡◌, ℕ, ◌≤◌, Bool, ◌++◌, length, take, drop};
+ghost use Rattle.std.specs.Prelude.{◌≡◌, ℕ, ◌≤◌, Bool, ◌++◌, length, drop};
 ghost use Rattle.std.specs.List.{prefix_len};
 ghost use Rattle.forms.specs.Bytes.{allowed, digit};
-ghost use Rattle.forms.specs.Verdicts.{admitted};
-
-use crate::fault::FieldFault;
 
 // A class of bytes, told by a test.
 pub trait ByteClass {
@@ -41,33 +38,7 @@ impl ByteClass for DigitByte {
 pub fn passed<C: ByteClass>(field: &[u8]) -> usize
     ensures { result ≡ prefix_len C.ByteClass.holds field.now }
 {
-    for (i, b) in field.iter().enumerate() {
-        if !C::has(*b) {
-            return i;
-        }
-    }
-    field.len()
-}
-
-// The first fault of a field that begins at the place `at` and is to have `shortest` to `longest` bytes, all of the class.
-pub(crate) fn admit<C: ByteClass>(
-    field: &[u8],
-    at: usize,
-    shortest: usize,
-    longest: usize,
-) -> Option<FieldFault>
-    ensures { result ≡ admitted C.ByteClass.holds shortest longest at field.now }
-{
-    if field.len() < shortest || longest < field.len() {
-        return Some(FieldFault::Length { place: at as u128 });
-    }
-    let k = passed::<C>(field);
-    if k < field.len() {
-        return Some(FieldFault::Barred {
-            place: at as u128 + k as u128,
-        });
-    }
-    None
+    field.iter().take_while(|b| C::has(**b)).count()
 }
 
 // Writes `from` over the first bytes of `out`.
@@ -75,16 +46,5 @@ pub(crate) fn put(out: &mut [u8], from: &[u8])
     requires { length from.now ≤ length out.old }
     ensures { out.new ≡ from.now ++ drop (length from.now) out.old }
 {
-    out[0..from.len()].copy_from_slice(from);
-}
-
-// Writes the first `len` of `bytes`, or all of them where they are fewer, over the first bytes of `out`, and says how many it wrote.
-pub(crate) fn put_front(bytes: &[u8], len: u8, out: &mut [u8; 30]) -> usize
-    requires { length bytes.now ≤ 30 }
-    ensures long { result ≡ length (take len bytes.now) }
-    ensures wrote { out.new ≡ take len bytes.now ++ drop result out.old }
-{
-    let n = usize::from(len).min(bytes.len());
-    put(out, &bytes[0..n]);
-    n
+    out[..from.len()].copy_from_slice(from);
 }

@@ -6,10 +6,10 @@ ghost use Rattle.forms.specs.CountLaws.{count_rewrites, count_lengths};
 ghost use Rattle.forms.specs.Writings.{apart_from};
 ghost use Rattle.std.proofs.Common.{rules};
 
-use crate::bytes::{DigitByte, admit};
 use crate::fault::FieldFault;
+use crate::field::Field;
 use crate::form::Form;
-use crate::numbers::{read_number, write_decimal};
+use crate::numbers::write_decimal;
 use crate::value::Value;
 use crate::year::Year;
 
@@ -21,7 +21,7 @@ impl Form for CountForm {
 
     const MAX: usize = 8;
 
-    ghost most = { 8 };
+    ghost MAX = { 8 };
 
     ghost exact = { false };
 
@@ -41,21 +41,12 @@ impl Form for CountForm {
 
     ghost rewrites = { λ y f _ h. count_rewrites y f h };
 
-    ghost apart = { λ y f g _ h k. apart_from _ _ _ y f g (count_rewrites y f h) (count_rewrites y g k) };
-
     ghost lengths = { λ y f _ h. count_lengths y f h };
 
     ghost tells = { Prim.search rules };
 
-    fn longest() -> usize {
-        Self::MAX
-    }
-
-    fn read(_year: Year, field: &[u8], at: usize) -> Result<u32, FieldFault> {
-        if let Some(fault) = admit::<DigitByte>(field, at, 1, 8) {
-            return Err(fault);
-        }
-        Ok(read_number(field))
+    fn read(_year: Year, field: Field<'_>) -> Result<u32, FieldFault> {
+        Ok(field.digits(1, 8)?.number())
     }
 
     fn write(value: &u32, out: &mut [u8; 30]) -> usize {

@@ -2,15 +2,16 @@
 ghost use Rattle.std.specs.Prelude.{◌≡◌, ℕ, ◌+◌, ◌%◌, ◌<◌, ◌≤◌, true, ◌&&◌, length};
 ghost use Rattle.forms.specs.Bytes.{digit, every, pair, two};
 ghost use Rattle.forms.specs.Values.{date_means};
-ghost use Rattle.forms.specs.Dates.{full_year, leap, days_in, day_stands, day_meant, date_lawful, date_fault, date_worth, date_writing};
+ghost use Rattle.forms.specs.Dates.{full_year, leap, days_in, date_read, date_lawful, date_fault, date_worth, date_writing};
 ghost use Rattle.forms.specs.DateLaws.{date_rewrites};
 ghost use Rattle.forms.specs.Writings.{apart_from};
 ghost use Rattle.std.proofs.Common.{rules};
 
-use crate::bytes::{DigitByte, admit, put};
+use crate::bytes::put;
 use crate::fault::FieldFault;
+use crate::field::Field;
 use crate::form::Form;
-use crate::numbers::two_digits;
+use crate::numbers::{Digits, two_digits};
 use crate::value::{Date, Value};
 use crate::year::Year;
 
@@ -49,39 +50,33 @@ pub(crate) fn last_day(year: u16, month: u8) -> u8
     ensures { result ≡ days_in year month }
 {
     match month {
-        2 => { if is_leap(year) { 29 } else { 28 } }
+        2 if is_leap(year) => 29,
+        2 => 28,
         4 | 6 | 9 | 11 => 30,
         _ => 31,
     }
 }
 
-// The date that the first six of `field`'s digits write on a card of the year `card`, its day as written; whether there is such a date.
-pub(crate) fn read_date(card: Year, field: &[u8]) -> (Date, bool)
-    requires long { 6 ≤ length field.now }
-    requires digits { every digit field.now ≡ true }
-    ensures date { result.0 ≡ record { year = full_year card.number (pair field.now 0); month = pair field.now 2; day = pair field.now 4 } }
-    ensures stands { result.1 ≡ day_stands (full_year card.number (pair field.now 0)) (pair field.now 2) (pair field.now 4) }
+// The date that the first six digits write on a card of the year `card`, its day as written, if there is such a date.
+pub(crate) fn read_date(card: Year, digits: Digits<'_>) -> Option<Date>
+    requires { 6 ≤ length digits.bytes.now }
+    ensures { result ≡ date_read card.number digits.entry.bytes.now }
 {
-    let year = full_year(card, two_digits(field, 0));
-    let month = two_digits(field, 2);
-    let day = two_digits(field, 4);
-    let stands = (1 <= month) & (month <= 12) & (day <= last_day(year, month));
-    (Date { year, month, day }, stands)
+    let year = full_year(card, digits.pair(0));
+    let month = digits.pair(2);
+    let day = digits.pair(4);
+    let stands = (1..=12).contains(&month) && day <= last_day(year, month);
+    stands.then_some(Date { year, month, day })
 }
 
 // The six digits of a date.
 pub(crate) fn date_digits(date: &Date) -> [u8; 6]
     ensures { result ≡ date_writing date.now }
 {
-    let yy = (date.year % 100) as u8;
-    [
-        48 + yy / 10,
-        48 + yy % 10,
-        48 + date.month / 10,
-        48 + date.month % 10,
-        48 + date.day / 10,
-        48 + date.day % 10,
-    ]
+    let [a, b] = two_digits((date.year % 100) as u8);
+    let [c, d] = two_digits(date.month);
+    let [e, f] = two_digits(date.day);
+    [a, b, c, d, e, f]
 }
 
 impl Form for DateForm {
@@ -89,7 +84,7 @@ impl Form for DateForm {
 
     const MAX: usize = 6;
 
-    ghost most = { 6 };
+    ghost MAX = { 6 };
 
     ghost exact = { true };
 
@@ -109,34 +104,21 @@ impl Form for DateForm {
 
     ghost rewrites = { λ y f s h. date_rewrites y f s h };
 
-    ghost apart = { λ y f g s h k. apart_from _ _ _ y f g (date_rewrites y f s h) (date_rewrites y g s k) };
-
     ghost lengths = { Prim.search rules };
 
     ghost tells = { Prim.search rules };
 
-    fn longest() -> usize {
-        Self::MAX
-    }
-
-    fn read(year: Year, field: &[u8], at: usize) -> Result<Date, FieldFault> {
-        if let Some(fault) = admit::<DigitByte>(field, at, 6, 6) {
-            return Err(fault);
-        }
-        let (date, stands) = read_date(year, field);
-        if !stands {
-            return Err(FieldFault::NoSuchTime { place: at as u128 });
-        }
+    fn read(year: Year, field: Field<'_>) -> Result<Date, FieldFault> {
+        let digits = field.digits(6, 6)?;
+        let date = read_date(year, digits).ok_or(FieldFault::NoSuchTime {
+            place: field.place(0),
+        })?;
         let day = if date.day == 0 {
             last_day(date.year, date.month)
         } else {
             date.day
         };
-        Ok(Date {
-            year: date.year,
-            month: date.month,
-            day,
-        })
+        Ok(Date { day, ..date })
     }
 
     fn write(value: &Date, out: &mut [u8; 30]) -> usize {

@@ -2,18 +2,20 @@
 ghost use Rattle.std.specs.Prelude.{◌-◌, true, length};
 ghost use Rattle.forms.specs.Values.{text_means};
 ghost use Rattle.forms.specs.Texts.{text_writing, digits_lawful, digits_fault, text_worth};
-ghost use Rattle.forms.specs.DigitsIsFormLemmas.{rewritten};
-ghost use Rattle.forms.specs.Writings.{apart_from, taken_back, lengths_as_read};
+ghost use Rattle.forms.specs.PackedLaws.{digits_rewrites};
+ghost use Rattle.forms.specs.Writings.{packed_lengths};
 ghost use Rattle.std.proofs.Common.{rules};
 
 use crate::bytes::DigitByte;
 use crate::fault::FieldFault;
+use crate::field::Field;
 use crate::form::Form;
-use crate::text::{read_text, tell_text, write_text};
+use crate::text::{read_text, tell_text};
 use crate::value::{Text, Value};
 use crate::year::Year;
 
 // The form of digits.
+// Kept: each form is an impl of its own, by a rule of the project; text and digits share what reads and tells them.
 pub struct DigitsForm;
 
 impl Form for DigitsForm {
@@ -21,7 +23,7 @@ impl Form for DigitsForm {
 
     const MAX: usize = 30;
 
-    ghost most = { 30 };
+    ghost MAX = { 30 };
 
     ghost exact = { true };
 
@@ -39,24 +41,18 @@ impl Form for DigitsForm {
 
     ghost sized = { Prim.search rules };
 
-    ghost rewrites = { λ y f _ h. rewritten y f h };
+    ghost rewrites = { λ y f _ h. digits_rewrites y f h };
 
-    ghost apart = { λ y f g _ h k. apart_from _ _ _ y f g (rewritten y f h) (rewritten y g k) };
-
-    ghost lengths = { λ y f _ h. lengths_as_read digits_lawful text_worth text_writing y f (taken_back f (30 - length f)) h.some };
+    ghost lengths = { λ y f _ h. packed_lengths 30 digits_lawful y f h.some };
 
     ghost tells = { Prim.search rules };
 
-    fn longest() -> usize {
-        Self::MAX
-    }
-
-    fn read(_year: Year, field: &[u8], at: usize) -> Result<Text, FieldFault> {
-        read_text::<DigitByte>(field, at)
+    fn read(_year: Year, field: Field<'_>) -> Result<Text, FieldFault> {
+        read_text::<DigitByte>(field)
     }
 
     fn write(value: &Text, out: &mut [u8; 30]) -> usize {
-        write_text(value, out)
+        value.write(out)
     }
 
     fn tell(value: &Text) -> Value {

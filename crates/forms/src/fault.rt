@@ -1,7 +1,10 @@
 // Why a field is refused.
-ghost use Rattle.std.specs.Prelude.{◌≡◌, ℕ};
+ghost use Rattle.std.specs.Prelude.{◌≡◌, ℕ, Some};
 ghost use Rattle.forms.specs.declared.fault.Layer.{Layer};
 ghost use Rattle.forms.specs.Faults.{field_number, field_layer, field_place};
+ghost use Rattle.forms.specs.Printed.{layer_name};
+
+use std::fmt;
 
 // The layer of the software whose rule was broken.
 #[derive(Clone, Copy, Debug, PartialEq, Eq)]
@@ -12,6 +15,22 @@ pub enum Layer {
     Writer,
     Symbol,
     Book,
+}
+
+// Writes the name.
+impl fmt::Display for Layer {
+    ghost output = { λ l. Some (layer_name l) };
+
+    fn fmt<W: fmt::Write>(&self, f: &mut fmt::Formatter<W>) -> fmt::Result {
+        f.write_str(match self {
+            Layer::Scan => "scan",
+            Layer::Field => "field",
+            Layer::Card => "card",
+            Layer::Writer => "writer",
+            Layer::Symbol => "symbol",
+            Layer::Book => "book",
+        })
+    }
 }
 
 // What every refusal tells: its number, the layer whose rule was broken, and a place, counted from 0.

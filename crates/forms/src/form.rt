@@ -4,9 +4,11 @@ ghost use Rattle.forms.specs.declared.fault.FieldFault.{FieldFault};
 ghost use Rattle.forms.specs.Years.{InSpan};
 ghost use Rattle.forms.specs.Verdicts.{answered};
 ghost use Rattle.forms.specs.Values.{Meaning, told, written};
+ghost use Rattle.forms.specs.Writings.{apart_from};
 ghost use Rattle.forms.specs.Laws.{Rewrites, Lengths, Judged, Rewrote, FirstRefused};
 
 use crate::fault::FieldFault;
+use crate::field::Field;
 use crate::value::Value;
 use crate::year::Year;
 
@@ -18,8 +20,7 @@ pub trait Form {
     // the longest field
     const MAX: usize;
 
-    // what `MAX` is
-    ghost most: { ℕ };
+    ghost MAX: { ℕ };
 
     // whether a writing is always as long as the field that was read
     ghost exact: { Bool };
@@ -39,15 +40,12 @@ pub trait Form {
     // the first fault of the field f in the year y, where f begins at the place p
     ghost fault: { ℕ → ℕ → List ℕ → Option FieldFault };
 
-    // The longest field.
-    fn longest() -> usize
-        ensures { result ≡ most };
-
     // The value of a field of any bytes that begins at any place, or its first fault.
-    fn read(year: Year, field: &[u8], at: usize) -> Result<Self::Value, FieldFault>
-        ensures { result ≡ answered (fault year.number at field.now) (worth year.number field.now) };
+    fn read(year: Year, field: Field<'_>) -> Result<Self::Value, FieldFault>
+        ensures { result ≡ answered (fault year.number field.entry.at field.entry.bytes.now) (worth year.number field.entry.bytes.now) };
 
     // Writes a value over the first bytes of `out`, and says how many it wrote.
+    // Kept: fixed memory, since the library asks for none: the caller lends the buffer.
     fn write(value: &Self::Value, out: &mut [u8; 30]) -> usize
         ensures long { result ≡ length (writing value.now) }
         ensures wrote { out.new ≡ writing value.now ++ drop result out.old };
@@ -60,13 +58,13 @@ pub trait Form {
     ghost judged: { (y p : ℕ) (f : List ℕ) → Judged (lawful y f) (fault y p f) };
 
     // a lawful field is not longer than the longest, which is not longer than 30 bytes
-    ghost sized: { (y : ℕ) (f : List ℕ) → lawful y f → (1 ≤ length f) × (length f ≤ most) × (most ≤ 30) };
+    ghost sized: { (y : ℕ) (f : List ℕ) → lawful y f → (1 ≤ length f) × (length f ≤ MAX) × (MAX ≤ 30) };
 
     // a writing is lawful, has only bytes that a text may hold, and has the value written
     ghost rewrites: { (y : ℕ) (f : List ℕ) → InSpan y → lawful y f → Rewrites lawful worth writing y f };
 
     // two lawful fields have equal values exactly where their writings are equal
-    ghost apart: { (y : ℕ) (f g : List ℕ) → InSpan y → lawful y f → lawful y g → (worth y f ≡ worth y g → writing (worth y f) ≡ writing (worth y g)) × (writing (worth y f) ≡ writing (worth y g) → worth y f ≡ worth y g) };
+    ghost apart: { (y : ℕ) (f g : List ℕ) → InSpan y → lawful y f → lawful y g → (worth y f ≡ worth y g → writing (worth y f) ≡ writing (worth y g)) × (writing (worth y f) ≡ writing (worth y g) → worth y f ≡ worth y g) } = { λ y f g s h k. apart_from lawful worth writing y f g (rewrites y f s h) (rewrites y g s k) };
 
     // a writing is as long as the field read, or, where it need not be, at least a byte and no longer
     ghost lengths: { (y : ℕ) (f : List ℕ) → InSpan y → lawful y f → Lengths exact (length f) (length (writing (worth y f))) };
@@ -75,26 +73,27 @@ pub trait Form {
     ghost tells: { (v : Self.Value) → writing v ≡ written (meaning v) };
 }
 
+// Kept: 30 lent bytes, and how many were written, since the library asks for no memory.
 // Writes the value of a field again, over the first bytes of `out`, and says how many it wrote; or the field's first fault, and `out` stays.
 pub fn rewrite<F: Form>(
     year: Year,
-    field: &[u8],
-    at: usize,
+    field: Field<'_>,
     out: &mut [u8; 30],
 ) -> Result<usize, FieldFault>
-    ensures { MatchResult result (λ n. (F.Form.fault year.number at field.now ≡ None) × Rewrote F.Form.lawful F.Form.worth F.Form.writing year.number field.now out.old out.new n) (λ e. (F.Form.fault year.number at field.now ≡ Some e) × (out.new ≡ out.old)) }
+    ensures { MatchResult result (λ n. (F.Form.fault year.number field.entry.at field.entry.bytes.now ≡ None) × Rewrote F.Form.lawful F.Form.worth F.Form.writing year.number field.entry.bytes.now out.old out.new n) (λ e. (F.Form.fault year.number field.entry.at field.entry.bytes.now ≡ Some e) × (out.new ≡ out.old)) }
 {
-    let value = F::read(year, field, at)?;
+    let value = F::read(year, field)?;
     Ok(F::write(&value, out))
 }
 
+// Kept: two arrays and how many bytes were written, since the library asks for no memory.
 // Whether two fields have one value; or the first fault of the first that has one. Places count from each field's first byte.
 pub fn same<F: Form>(year: Year, a: &[u8], b: &[u8]) -> Result<bool, FieldFault>
     ensures { MatchResult result (λ s. F.Form.lawful year.number a.now × F.Form.lawful year.number b.now × Decides s (F.Form.worth year.number a.now ≡ F.Form.worth year.number b.now)) (λ e. FirstRefused (F.Form.fault year.number 0 a.now) (F.Form.fault year.number 0 b.now) e) }
 {
     let mut left = [0; 30];
     let mut right = [0; 30];
-    let m = rewrite::<F>(year, a, 0, &mut left)?;
-    let n = rewrite::<F>(year, b, 0, &mut right)?;
-    Ok(left[0..m] == right[0..n])
+    let m = rewrite::<F>(year, Field { bytes: a, at: 0 }, &mut left)?;
+    let n = rewrite::<F>(year, Field { bytes: b, at: 0 }, &mut right)?;
+    Ok(left[..m] == right[..n])
 }

@@ -6,6 +6,7 @@ use crate::count::CountForm;
 use crate::date::DateForm;
 use crate::digits::DigitsForm;
 use crate::fault::FieldFault;
+use crate::field::Field;
 use crate::form::Form;
 use crate::key::KeyForm;
 use crate::kind::FormKind;
@@ -16,6 +17,7 @@ use crate::value::Value;
 use crate::year::Year;
 
 // What a lawful field means, and how many bytes its value's writing has.
+// Kept: a number beside the bytes that are lent, since the library asks for no memory.
 #[derive(Clone, Copy)]
 pub struct Reading {
     pub value: Value,
@@ -25,13 +27,12 @@ pub struct Reading {
 // Reads a field of a form and writes its value again over the first bytes of `out`; where it has a fault, `out` stays.
 fn judge_as<F: Form>(
     year: Year,
-    field: &[u8],
-    at: usize,
+    field: Field<'_>,
     out: &mut [u8; 30],
 ) -> Result<Reading, FieldFault>
-    ensures { Reads (F.Form.fault year.number at field.now) (F.Form.meaning (F.Form.worth year.number field.now)) out.old out.new result }
+    ensures { Reads (F.Form.fault year.number field.entry.at field.entry.bytes.now) (F.Form.meaning (F.Form.worth year.number field.entry.bytes.now)) out.old out.new result }
 {
-    let value = F::read(year, field, at)?;
+    let value = F::read(year, field)?;
     let len = F::write(&value, out);
     Ok(Reading {
         value: F::tell(&value),
@@ -39,24 +40,23 @@ fn judge_as<F: Form>(
     })
 }
 
-// Judges a field of the form `kind` that begins at the place `at`, on a card of the year `year`: its value, which is written again
-// over the first bytes of `out`; or its first fault, and `out` stays.
+// Judges a field of the form `kind` on a card of the year `year`: its value, which is written again over the first bytes of `out`;
+// or its first fault, and `out` stays.
 pub fn judge(
     kind: FormKind,
     year: Year,
-    field: &[u8],
-    at: usize,
+    field: Field<'_>,
     out: &mut [u8; 30],
 ) -> Result<Reading, FieldFault>
-    ensures { Reads (kind_fault kind year.number at field.now) (kind_meaning kind year.number field.now) out.old out.new result }
+    ensures { Reads (kind_fault kind year.number field.entry.at field.entry.bytes.now) (kind_meaning kind year.number field.entry.bytes.now) out.old out.new result }
 {
     match kind {
-        FormKind::Text => judge_as::<TextForm>(year, field, at, out),
-        FormKind::Digits => judge_as::<DigitsForm>(year, field, at, out),
-        FormKind::Key => judge_as::<KeyForm>(year, field, at, out),
-        FormKind::Date => judge_as::<DateForm>(year, field, at, out),
-        FormKind::Stamp => judge_as::<StampForm>(year, field, at, out),
-        FormKind::Measure => judge_as::<MeasureForm>(year, field, at, out),
-        FormKind::Count => judge_as::<CountForm>(year, field, at, out),
+        FormKind::Text => judge_as::<TextForm>(year, field, out),
+        FormKind::Digits => judge_as::<DigitsForm>(year, field, out),
+        FormKind::Key => judge_as::<KeyForm>(year, field, out),
+        FormKind::Date => judge_as::<DateForm>(year, field, out),
+        FormKind::Stamp => judge_as::<StampForm>(year, field, out),
+        FormKind::Measure => judge_as::<MeasureForm>(year, field, out),
+        FormKind::Count => judge_as::<CountForm>(year, field, out),
     }
 }

@@ -3,13 +3,14 @@ ghost use Rattle.std.specs.Prelude.{◌≡◌, ℕ, ◌-◌, ◌≤◌, true, le
 ghost use Rattle.forms.specs.Bytes.{digit, every};
 ghost use Rattle.forms.specs.Values.{key_means};
 ghost use Rattle.forms.specs.Keys.{weight as weight-of, weighted, key_lawful, key_fault, key_worth, key_writing};
-ghost use Rattle.forms.specs.KeyIsFormLemmas.{rewritten};
-ghost use Rattle.forms.specs.Writings.{apart_from, taken_back, lengths_as_read};
+ghost use Rattle.forms.specs.PackedLaws.{key_rewrites};
+ghost use Rattle.forms.specs.Writings.{packed_lengths};
 ghost use Rattle.std.proofs.Common.{arith, rules};
 
-use crate::bytes::{DigitByte, admit, put, put_front};
 use crate::fault::FieldFault;
+use crate::field::Field;
 use crate::form::Form;
+use crate::numbers::Digits;
 use crate::value::{Key, Value};
 use crate::year::Year;
 
@@ -24,14 +25,13 @@ fn weight(right: usize) -> u32
 }
 
 // The weighted sum of digits.
-fn weighted_sum(field: &[u8]) -> u32
-    requires short { length field.now ≤ 18 }
-    requires digits { every digit field.now ≡ true }
-    ensures { result ≡ weighted field.now }
+fn weighted_sum(digits: Digits<'_>) -> u32
+    requires { length digits.bytes.now ≤ 18 }
+    ensures { result ≡ weighted digits.entry.bytes.now }
 {
     let mut sum: u32 = 0;
-    for (i, b) in field.iter().enumerate() {
-        sum += weight(field.len() - 1 - i) * u32::from(*b - 48);
+    for (right, b) in digits.bytes.iter().rev().enumerate() {
+        sum += weight(right) * u32::from(*b - b'0');
     }
     sum
 }
@@ -41,7 +41,7 @@ impl Form for KeyForm {
 
     const MAX: usize = 18;
 
-    ghost most = { 18 };
+    ghost MAX = { 18 };
 
     ghost exact = { true };
 
@@ -59,37 +59,24 @@ impl Form for KeyForm {
 
     ghost sized = { Prim.search rules };
 
-    ghost rewrites = { λ y f _ h. rewritten y f h };
+    ghost rewrites = { λ y f _ h. key_rewrites y f h };
 
-    ghost apart = { λ y f g _ h k. apart_from _ _ _ y f g (rewritten y f h) (rewritten y g k) };
-
-    ghost lengths = { λ y f _ h. lengths_as_read key_lawful key_worth key_writing y f (taken_back f (18 - length f)) (omega (arith, h.some)) };
+    ghost lengths = { λ y f _ h. packed_lengths 18 key_lawful y f (omega (arith, h.some)) };
 
     ghost tells = { Prim.search rules };
 
-    fn longest() -> usize {
-        Self::MAX
-    }
-
-    fn read(_year: Year, field: &[u8], at: usize) -> Result<Key, FieldFault> {
-        if let Some(fault) = admit::<DigitByte>(field, at, 2, 18) {
-            return Err(fault);
-        }
-        if weighted_sum(field) % 10 != 0 {
+    fn read(_year: Year, field: Field<'_>) -> Result<Key, FieldFault> {
+        let digits = field.digits(2, 18)?;
+        if weighted_sum(digits) % 10 != 0 {
             return Err(FieldFault::CheckDigit {
-                place: at as u128 + (field.len() - 1) as u128,
+                place: field.place(field.bytes.len() - 1),
             });
         }
-        let mut digits = [0; 18];
-        put(&mut digits, field);
-        Ok(Key {
-            digits,
-            len: field.len() as u8,
-        })
+        Ok(Key::of(field.bytes))
     }
 
     fn write(value: &Key, out: &mut [u8; 30]) -> usize {
-        put_front(&value.digits, value.len, out)
+        value.write(out)
     }
 
     fn tell(value: &Key) -> Value {

@@ -9,3 +9,16 @@ pub enum FormKind {
     Measure,
     Count,
 }
+
+impl FormKind {
+    // All of them.
+    pub const ALL: [FormKind; 7] = [
+        FormKind::Text,
+        FormKind::Digits,
+        FormKind::Key,
+        FormKind::Date,
+        FormKind::Stamp,
+        FormKind::Measure,
+        FormKind::Count,
+    ];
+}

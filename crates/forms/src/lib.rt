@@ -6,12 +6,15 @@ pub mod count;
 pub mod date;
 pub mod digits;
 pub mod fault;
+pub mod field;
 pub mod form;
 pub mod judge;
 pub mod key;
 pub mod kind;
 pub mod measure;
 pub mod numbers;
+pub mod packed;
+pub mod refusal;
 pub mod stamp;
 #[cfg(test)]
 mod tests;

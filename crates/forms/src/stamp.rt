@@ -2,13 +2,13 @@
 ghost use Rattle.std.specs.Prelude.{true};
 ghost use Rattle.forms.specs.Values.{stamp_means};
 ghost use Rattle.forms.specs.Dates.{stamp_lawful, stamp_fault, stamp_worth, stamp_writing};
-ghost use Rattle.forms.specs.StampIsFormLemmas.{rewritten};
-ghost use Rattle.forms.specs.Writings.{apart_from};
+ghost use Rattle.forms.specs.DateLaws.{stamp_rewrites};
 ghost use Rattle.std.proofs.Common.{rules};
 
-use crate::bytes::{DigitByte, admit, put};
+use crate::bytes::put;
 use crate::date::{date_digits, read_date};
 use crate::fault::FieldFault;
+use crate::field::Field;
 use crate::form::Form;
 use crate::numbers::two_digits;
 use crate::value::{Stamp, Value};
@@ -22,7 +22,7 @@ impl Form for StampForm {
 
     const MAX: usize = 10;
 
-    ghost most = { 10 };
+    ghost MAX = { 10 };
 
     ghost exact = { true };
 
@@ -40,46 +40,31 @@ impl Form for StampForm {
 
     ghost sized = { Prim.search rules };
 
-    ghost rewrites = { λ y f s h. rewritten y f s h };
-
-    ghost apart = { λ y f g s h k. apart_from _ _ _ y f g (rewritten y f s h) (rewritten y g s k) };
+    ghost rewrites = { λ y f s h. stamp_rewrites y f s h };
 
     ghost lengths = { Prim.search rules };
 
     ghost tells = { Prim.search rules };
 
-    fn longest() -> usize {
-        Self::MAX
-    }
-
-    fn read(year: Year, field: &[u8], at: usize) -> Result<Stamp, FieldFault> {
-        if let Some(fault) = admit::<DigitByte>(field, at, 10, 10) {
-            return Err(fault);
+    fn read(year: Year, field: Field<'_>) -> Result<Stamp, FieldFault> {
+        let digits = field.digits(10, 10)?;
+        let hour = digits.pair(6);
+        let minute = digits.pair(8);
+        match read_date(year, digits) {
+            Some(date) if 1 <= date.day && hour <= 23 && minute <= 59 => {
+                Ok(Stamp { date, hour, minute })
+            }
+            _ => Err(FieldFault::NoSuchTime {
+                place: field.place(0),
+            }),
         }
-        let (date, stands) = read_date(year, field);
-        let hour = two_digits(field, 6);
-        let minute = two_digits(field, 8);
-        if !(stands & ((1 <= date.day) & ((hour <= 23) & (minute <= 59)))) {
-            return Err(FieldFault::NoSuchTime { place: at as u128 });
-        }
-        Ok(Stamp { date, hour, minute })
     }
 
     fn write(value: &Stamp, out: &mut [u8; 30]) -> usize {
-        let [y, z, m, n, d, e] = date_digits(&value.date);
-        let digits = [
-            y,
-            z,
-            m,
-            n,
-            d,
-            e,
-            48 + value.hour / 10,
-            48 + value.hour % 10,
-            48 + value.minute / 10,
-            48 + value.minute % 10,
-        ];
-        put(out, &digits);
+        let [a, b, c, d, e, f] = date_digits(&value.date);
+        let [g, h] = two_digits(value.hour);
+        let [i, j] = two_digits(value.minute);
+        put(out, &[a, b, c, d, e, f, g, h, i, j]);
         10
     }
 

@@ -1,6 +1,7 @@
 // Fields of a label.
 use crate::count::CountForm;
 use crate::fault::FieldFault;
+use crate::field::Field;
 use crate::form::{rewrite, same};
 use crate::judge::judge;
 use crate::key::KeyForm;
@@ -11,7 +12,16 @@ use std::test::Fail;
 
 // Whether a date is lawful in the year 2000.
 fn is_date(field: &[u8]) -> bool {
-    judge(FormKind::Date, Year::FIRST, field, 0, &mut [0; 30]).is_ok()
+    judge(
+        FormKind::Date,
+        Year::FIRST,
+        Field {
+            bytes: field,
+            at: 0,
+        },
+        &mut [0; 30],
+    )
+    .is_ok()
 }
 
 // The years 1996 and 2000 are leap years, and 1999 is none.
@@ -26,12 +36,17 @@ fn leap_years(rt: HostRuntime) {
 #[test]
 fn check_digits(rt: HostRuntime) -> Result<(), Fail> {
     let mut out = [0; 30];
-    assert_eq!(rt;
-        rewrite::<KeyForm>(Year::FIRST, b"04841234123457", 5, &mut out)?,
-        14
-    );
+    let field = Field {
+        bytes: b"04841234123457",
+        at: 5,
+    };
+    assert_eq!(rt; rewrite::<KeyForm>(Year::FIRST, field, &mut out)?, 14);
     assert_eq!(rt; out[13], b'7');
-    let refused = rewrite::<KeyForm>(Year::FIRST, b"04841234123458", 5, &mut out);
+    let wrong = Field {
+        bytes: b"04841234123458",
+        at: 5,
+    };
+    let refused = rewrite::<KeyForm>(Year::FIRST, wrong, &mut out);
     assert_eq!(rt; refused, Err(FieldFault::CheckDigit { place: 18 }));
     Ok(())
 }

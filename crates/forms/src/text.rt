@@ -1,14 +1,16 @@
 // Texts: 1 to 30 bytes that a text may hold.
 ghost use Rattle.std.specs.Prelude.{◌≡◌, ℕ, ◌-◌, true, List, ◌++◌, length, drop};
 ghost use Rattle.forms.specs.Verdicts.{answered};
+ghost use Rattle.forms.specs.Packs.{packed};
 ghost use Rattle.forms.specs.Values.{told, text_means};
-ghost use Rattle.forms.specs.Texts.{chars_fault, chars_worth, text_writing, text_lawful, text_fault, text_worth};
-ghost use Rattle.forms.specs.TextIsFormLemmas.{rewritten};
-ghost use Rattle.forms.specs.Writings.{apart_from, taken_back, lengths_as_read};
+ghost use Rattle.forms.specs.Texts.{chars_fault, text_writing, text_lawful, text_fault, text_worth};
+ghost use Rattle.forms.specs.PackedLaws.{text_rewrites};
+ghost use Rattle.forms.specs.Writings.{packed_lengths};
 ghost use Rattle.std.proofs.Common.{rules};
 
-use crate::bytes::{ByteClass, TextByte, admit, put, put_front};
+use crate::bytes::{ByteClass, TextByte};
 use crate::fault::FieldFault;
+use crate::field::Field;
 use crate::form::Form;
 use crate::value::{Text, Value};
 use crate::year::Year;
@@ -17,26 +19,11 @@ use crate::year::Year;
 pub struct TextForm;
 
 // The text of a field of 1 to 30 bytes, all of the class, or the field's first fault.
-pub(crate) fn read_text<C: ByteClass>(field: &[u8], at: usize) -> Result<Text, FieldFault>
-    ensures { result ≡ answered (chars_fault C.ByteClass.holds at field.now) (chars_worth field.now) }
+pub(crate) fn read_text<C: ByteClass>(field: Field<'_>) -> Result<Text, FieldFault>
+    ensures { result ≡ answered (chars_fault C.ByteClass.holds field.entry.at field.entry.bytes.now) (packed 30 field.entry.bytes.now) }
 {
-    if let Some(fault) = admit::<C>(field, at, 1, 30) {
-        return Err(fault);
-    }
-    let mut bytes = [0; 30];
-    put(&mut bytes, field);
-    Ok(Text {
-        bytes,
-        len: field.len() as u8,
-    })
-}
-
-// Writes a text over the first bytes of `out`, and says how many it wrote.
-pub(crate) fn write_text(value: &Text, out: &mut [u8; 30]) -> usize
-    ensures long { result ≡ length (text_writing value.now) }
-    ensures wrote { out.new ≡ text_writing value.now ++ drop result out.old }
-{
-    put_front(&value.bytes, value.len, out)
+    field.admit::<C>(1, 30)?;
+    Ok(Text::of(field.bytes))
 }
 
 // A text among the kinds of values.
@@ -53,7 +40,7 @@ impl Form for TextForm {
 
     const MAX: usize = 30;
 
-    ghost most = { 30 };
+    ghost MAX = { 30 };
 
     ghost exact = { true };
 
@@ -71,24 +58,18 @@ impl Form for TextForm {
 
     ghost sized = { Prim.search rules };
 
-    ghost rewrites = { λ y f _ h. rewritten y f h };
+    ghost rewrites = { λ y f _ h. text_rewrites y f h };
 
-    ghost apart = { λ y f g _ h k. apart_from _ _ _ y f g (rewritten y f h) (rewritten y g k) };
-
-    ghost lengths = { λ y f _ h. lengths_as_read text_lawful text_worth text_writing y f (taken_back f (30 - length f)) h.some };
+    ghost lengths = { λ y f _ h. packed_lengths 30 text_lawful y f h.some };
 
     ghost tells = { Prim.search rules };
 
-    fn longest() -> usize {
-        Self::MAX
-    }
-
-    fn read(_year: Year, field: &[u8], at: usize) -> Result<Text, FieldFault> {
-        read_text::<TextByte>(field, at)
+    fn read(_year: Year, field: Field<'_>) -> Result<Text, FieldFault> {
+        read_text::<TextByte>(field)
     }
 
     fn write(value: &Text, out: &mut [u8; 30]) -> usize {
-        write_text(value, out)
+        value.write(out)
     }
 
     fn tell(value: &Text) -> Value {

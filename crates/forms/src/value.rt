@@ -1,18 +1,15 @@
 // Values: what a lawful field means.
+ghost use Rattle.std.specs.Prelude.{Some};
+ghost use Rattle.forms.specs.Printed.{date_text, stamp_text};
 
-// A text: at most 30 bytes, the first `len` of `bytes`.
-#[derive(Clone, Copy)]
-pub struct Text {
-    pub(crate) bytes: [u8; 30],
-    pub(crate) len: u8,
-}
+use crate::packed::Packed;
+use std::fmt;
 
-// A key: its digits, at most 18, the first `len` of `digits`.
-#[derive(Clone, Copy)]
-pub struct Key {
-    pub(crate) digits: [u8; 18],
-    pub(crate) len: u8,
-}
+// A text.
+pub type Text = Packed<30>;
+
+// A key: its digits.
+pub type Key = Packed<18>;
 
 // A day of the calendar.
 #[derive(Clone, Copy)]
@@ -40,4 +37,24 @@ pub enum Value {
     // so many hundred-thousandths
     Fraction(u64),
     Whole(u32),
+}
+
+// Writes year, month and day with hyphens between.
+impl fmt::Display for Date {
+    ghost output = { λ d. Some (date_text d) };
+
+    fn fmt<W: fmt::Write>(&self, f: &mut fmt::Formatter<W>) -> fmt::Result {
+        let Date { year, month, day } = *self;
+        write!(f, "{year:04}-{month:02}-{day:02}")
+    }
+}
+
+// Writes the date, and behind a space hour and minute with a colon between.
+impl fmt::Display for Stamp {
+    ghost output = { λ s. Some (stamp_text s) };
+
+    fn fmt<W: fmt::Write>(&self, f: &mut fmt::Formatter<W>) -> fmt::Result {
+        let Stamp { date, hour, minute } = *self;
+        write!(f, "{date} {hour:02}:{minute:02}")
+    }
 }

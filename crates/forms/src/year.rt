@@ -18,7 +18,7 @@ impl Year {
     pub fn new(number: u16) -> Option<Year>
         ensures { MatchOption result (InSpan number → ⊥) (λ y. InSpan number × (y.number ≡ number)) }
     {
-        if 2000 <= number && number <= 2199 {
+        if (2000..=2199).contains(&number) {
             Some(Year { number })
         } else {
             None

@@ -1,6 +1,5 @@
-use Rattle.std.proofs.Common.{◌≡◌, ◌+◌, drop}
-use Rattle.forms.specs.Keys.{weighted}
+use Rattle.forms.proofs.Weights.{Weighed}
 use Rattle.forms.proofs.key.weighted_sum.Given as goal
 
-abbrev pub invariant-loop-i : goal.invariant-loop-i
-invariant-loop-i l = l.sum + weighted (drop l.i l.field) ≡ weighted l.field
+abbrev pub invariant-loop-right : goal.invariant-loop-right
+invariant-loop-right l = Weighed l.digits.bytes.now l.right-iterator.iter.iter.rest.now l.right-iterator.count l.sum

@@ -6,9 +6,6 @@ use Rattle.forms.proofs.numbers.+write_decimal.Goals as goal
 pub bounds-out-k : goal.bounds-out-k
 bounds-out-k t c = omega (arith, c.write_decimal-k.ensures.long, decimal_short (c.args.n / 10) (omega arith))
 
-pub overflow_add-result : goal.overflow_add-result
-overflow_add-result t c = omega (arith, c.write_decimal-k.ensures.long, decimal_short (c.args.n / 10) (omega arith))
-
 pub returns-then-n-lt10 : goal.returns-then-n-lt10
 returns-then-n-lt10 t c =
     record { long = sym (ap length (decimal_digit c.args.n c.if-n-lt10.true)); wrote = decimal_one c.args.n c.args.out.now c.if-n-lt10.true (omega arith) }
