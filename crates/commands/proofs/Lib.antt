@@ -2,8 +2,5 @@ pub mod Readings
 pub mod Fronts
 pub mod Unescapes
 pub mod ShowsBack
-pub mod Finds
-pub mod Said
-pub mod Pieces
 pub mod Tails
-pub mod WithoutArguments
+pub mod Pieces

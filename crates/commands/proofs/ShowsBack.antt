@@ -2,18 +2,13 @@
 use Rattle.std.proofs.Common.{◌≡◌, ℕ, ◌+◌, ◌*◌, ◌/◌, ◌%◌, ◌<◌, ◌≤◌, true, cond, eqb, List, [], ◌∷◌, ◌++◌, length, get_or, take, Some, sym, refl, ap, ◌∙◌, arith, w8, Fits}
 use Rattle.std.specs.List.{AllByRecursion as All}
 use Rattle.std.proofs.ByRecursion.{All-from_get_or}
-use Rattle.std.proofs.lemmas.List.{flat_map_more, take_more, take_all, take_at}
+use Rattle.std.proofs.lemmas.List.{take_all, take_at}
 use Rattle.std.proofs.lemmas.Bool.{cond_both, eqb-true}
 use Rattle.std.proofs.lemmas.Bool.Decides.{nat_tests}
 use Rattle.commands.specs.Escapes.{hex_value, hex_byte, with_rest, front_byte, before, unescaped}
 use Rattle.commands.specs.Shows.{hex_digit, plain, shown_byte, shown_bytes, ReadsBack}
 use Rattle.commands.proofs.Fronts.{front-plain_byte}
 use Rattle.commands.proofs.Unescapes.{unescaped-step}
-
--- one byte more is shown
-pub shown_more : (was bs : List ℕ) (i : ℕ) → i < length bs → (was ++ shown_bytes (take i bs)) ++ shown_byte (get_or bs i 0) ≡ was ++ shown_bytes (take (i + 1) bs)
-shown_more was bs i l =
-    flat_map_more shown_byte was (take i bs) (get_or bs i 0) ∙ ap (λ ys. was ++ shown_bytes ys) (sym (take_more bs i 0 l))
 
 -- what was shown is taken back
 pub taken_back : (was shown out : List ℕ) (n : ℕ) → n ≡ length was → out ≡ was ++ shown → take n out ≡ was

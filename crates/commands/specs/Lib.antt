@@ -1,7 +1,7 @@
-pub mod CallMeanings
 pub mod Calls
 pub mod Complaints
 pub mod Escapes
+pub mod Failures
 pub mod HallLines
 pub mod Judgements
 pub mod Lines
@@ -9,4 +9,5 @@ pub mod Meanings
 pub mod Names
 pub mod Numerals
 pub mod Shows
+pub mod Widths
 pub mod Words

@@ -1,5 +1,5 @@
 -- How a line is cut.
-use Rattle.std.specs.Prelude.{ℕ, ◌-◌, Bool, cond, not, List, [], ◌∷◌, length, take, drop, ◌==◌, slice_index}
+use Rattle.std.specs.Prelude.{ℕ, ◌-◌, Bool, cond, not, List, [], ◌∷◌, Some, None, Option, length, take, drop, ◌==◌, slice_index}
 use Rattle.std.specs.List.{prefix_len}
 
 -- any byte but the space
@@ -17,6 +17,11 @@ tail bs = drop (prefix_len solid bs) bs
 -- what stands behind the space that a tail begins with
 abbrev pub behind : List ℕ → List ℕ
 behind bs = drop 1 bs
+
+-- the word of a line and its tail; nothing where the line is silent, since it is empty or begins with '#' (35)
+abbrev pub said : List ℕ → Option (List ℕ × List ℕ)
+said [] = None
+said (b ∷ bs) = cond (b == 35) None (Some (word (b ∷ bs), tail (b ∷ bs)))
 
 -- one byte more in front of the first piece
 abbrev pub longer : ℕ → List (List ℕ) → List (List ℕ)

@@ -1,39 +1,27 @@
 // The book that a line names.
-ghost use Rattle.std.specs.Prelude.{◌≡◌, IfOk};
+ghost use Rattle.std.specs.Prelude.{◌≡◌};
 ghost use Rattle.commands.specs.Calls.{book_asked};
-ghost use Rattle.commands.specs.Judgements.{judged};
-ghost use Rattle.commands.specs.CallMeanings.{hall_book_meant, book_chosen};
+ghost use Rattle.commands.specs.Judgements.{Says};
+ghost use Rattle.commands.specs.Meanings.{book_meant};
 
-use crate::arguments::{all_numbers, without_arguments};
+use crate::arguments::{all_numbers, no_arguments};
 use crate::complaint::Complaint;
 use crate::cut::{behind, split_word};
+use crate::error::LineError;
 use crate::line::BookChoice;
 use crate::name::{BookName, find};
-use std::alloc::{AllocError, Global};
-
-const BOOKS: [BookName; 2] = [BookName::Gs1, BookName::Hall];
-
-// The words of a hall's book, each of 32 bits.
-fn hall_book(heap: Global, tail: &[u8]) -> Result<Result<BookChoice, Complaint>, AllocError>
-    ensures { IfOk result (λ got. judged book_asked got ≡ hall_book_meant tail.now) }
-{
-    match all_numbers(heap, tail)? {
-        Some(words) => Ok(Ok(BookChoice::Hall(words))),
-        None => Ok(Err(Complaint::BadNumber)),
-    }
-}
+use std::alloc::Global;
 
 // The book that stands behind the word `book`: its name, and what belongs to it.
-pub(crate) fn book_choice(
-    heap: Global,
-    tail: &[u8],
-) -> Result<Result<BookChoice, Complaint>, AllocError>
-    ensures { IfOk result (λ got. judged book_asked got ≡ book_chosen tail.now) }
+pub(crate) fn book_choice(heap: Global, tail: &[u8]) -> Result<BookChoice, LineError>
+    ensures { Says book_asked result (book_meant tail.now) }
 {
     let (name, args) = split_word(behind(tail));
-    match find(&BOOKS, name) {
-        Some(BookName::Gs1) => Ok(without_arguments(BookChoice::Gs1, args)),
-        Some(BookName::Hall) => hall_book(heap, args),
-        None => Ok(Err(Complaint::UnknownCommand)),
+    match find(name).ok_or(Complaint::UnknownCommand)? {
+        BookName::Gs1 => {
+            no_arguments(args)?;
+            Ok(BookChoice::Gs1)
+        }
+        BookName::Hall => Ok(BookChoice::Hall(all_numbers(heap, args)?)),
     }
 }

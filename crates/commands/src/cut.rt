@@ -1,6 +1,6 @@
 // Words, and what stands behind them.
-ghost use Rattle.std.specs.Prelude.{◌≡◌};
-ghost use Rattle.commands.specs.Words.{solid, word, tail, behind, trimmed_line};
+ghost use Rattle.std.specs.Prelude.{◌≡◌, Some, None, MatchOption};
+ghost use Rattle.commands.specs.Words.{solid, word, tail, behind, said, trimmed_line};
 
 use forms::bytes::{ByteClass, passed};
 
@@ -21,6 +21,16 @@ pub fn split_word(bytes: &[u8]) -> (&[u8], &[u8])
     ensures back { result.1.now ≡ tail bytes.now }
 {
     bytes.split_at(passed::<SolidByte>(bytes))
+}
+
+// The word of a line and its tail; nothing where the line is silent, since it is empty or begins with `#`.
+pub(crate) fn said(line: &[u8]) -> Option<(&[u8], &[u8])>
+    ensures { MatchOption result (said line.now ≡ None) (λ p. said line.now ≡ Some (p.0.now, p.1.now)) }
+{
+    match line {
+        [] | [b'#', ..] => None,
+        _ => Some(split_word(line)),
+    }
 }
 
 // What stands behind the space that a tail begins with.

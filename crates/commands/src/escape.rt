@@ -1,11 +1,14 @@
 // Bytes as they are written in a line.
-ghost use Rattle.std.specs.Prelude.{◌≡◌, IfOk, Some, None, MatchOption, MatchResult};
+ghost use Rattle.std.specs.Prelude.{◌≡◌, Some, None, MatchOption, ok_or, vec_items};
 ghost use Rattle.commands.specs.declared.complaint.Complaint.TheVariants.{BadEscape};
 ghost use Rattle.commands.specs.Escapes.{hex_value, front_byte, unescaped};
+ghost use Rattle.commands.specs.Judgements.{Says};
 
 use crate::complaint::Complaint;
-use std::alloc::{AllocError, Global};
+use crate::error::LineError;
+use std::alloc::Global;
 
+// Kept: by hand, since three ranges say it, and the value of a digit of the library is a number of 32 bits of a `char`.
 // The value of a hexadecimal digit, in capitals or not.
 fn hex_value(b: u8) -> Option<u8>
     ensures { result ≡ hex_value b }
@@ -36,17 +39,15 @@ fn front_byte(writing: &[u8]) -> Option<(u8, &[u8])>
 
 // The bytes that a writing stands for: `^` is byte 29, a backslash and two hexadecimal digits are that byte,
 // any other byte is itself. A backslash before anything else is a bad escape.
-pub fn unescape(heap: Global, writing: &[u8]) -> Result<Result<Vec<u8>, Complaint>, AllocError>
-    ensures { IfOk result (λ got. MatchResult got (λ bytes. unescaped writing.now ≡ Some bytes.items) (λ e. (e ≡ BadEscape) × (unescaped writing.now ≡ None))) }
+pub fn unescape(heap: Global, writing: &[u8]) -> Result<Vec<u8>, LineError>
+    ensures { Says vec_items result (ok_or (unescaped writing.now) BadEscape) }
 {
     let mut out = Vec::new(heap);
     let mut rest = writing;
     while !rest.is_empty() {
-        let Some((b, behind)) = front_byte(rest) else {
-            return Ok(Err(Complaint::BadEscape));
-        };
+        let (b, behind) = front_byte(rest).ok_or(Complaint::BadEscape)?;
         out.push(b)?;
         rest = behind;
     }
-    Ok(Ok(out))
+    Ok(out)
 }

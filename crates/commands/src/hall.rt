@@ -1,16 +1,20 @@
 // Lines for two halls.
-ghost use Rattle.std.specs.Prelude.{◌≡◌, IfOk};
-ghost use Rattle.commands.specs.HallLines.{hall_line_meaning, hall_call_meant, hall_word_meant, hall_line_meant};
-ghost use Rattle.commands.specs.Judgements.{spoken};
-ghost use Rattle.commands.specs.Names.{hall_word_named};
+ghost use Rattle.std.specs.Prelude.{◌≡◌, Some, option_map};
+ghost use Rattle.commands.specs.HallLines.{hall_asked, hall_call_meant, hall_word_meant, hall_line_meant};
+ghost use Rattle.commands.specs.Judgements.{Says};
+ghost use Rattle.commands.specs.Calls.{call_asked};
+ghost use Rattle.commands.specs.Names.{hall_name, hall_word_named};
 
 use crate::book::book_choice;
 use crate::call::card_call;
 use crate::complaint::Complaint;
-use crate::cut::{behind, split_word};
-use crate::line::{BookChoice, CardCall};
-use crate::name::{CallWord, HallWord, find};
-use std::alloc::{AllocError, Global};
+use crate::cut::{behind, said, split_word};
+use crate::error::LineError;
+use crate::line::BookChoice;
+use crate::name::{HallWord, find};
+use calls::call::Call;
+use std::alloc::Global;
+use std::fmt;
 
 // Which of two halls.
 #[derive(Clone, Copy, Debug, PartialEq, Eq)]
@@ -21,70 +25,65 @@ pub enum Hall {
     Second,
 }
 
-// What a line for two halls is.
-#[derive(Drop)]
-pub enum HallLine {
-    // an empty line or a remark, which gets no answer
-    Silent,
-    // a call of the card of that hall
-    Call { hall: Hall, call: CardCall },
-    // a book, which both halls are to use
-    Book(BookChoice),
-    // none of these, and why
-    Complaint(Complaint),
+impl Hall {
+    // Its number, as it is written.
+    pub fn text(self) -> &'static str
+        ensures { result.now ≡ hall_name self }
+    {
+        match self {
+            Hall::First => "1",
+            Hall::Second => "2",
+        }
+    }
 }
 
-const CALLS: [CallWord; 5] = [
-    CallWord::Turn,
-    CallWord::Scan,
-    CallWord::Take,
-    CallWord::Strike,
-    CallWord::Wipe,
-];
+// Writes the number.
+impl fmt::Display for Hall {
+    ghost output = { λ hall. Some (hall_name hall) };
 
-const HALL_WORDS: [HallWord; 3] = [
-    HallWord::Hall(Hall::First),
-    HallWord::Hall(Hall::Second),
-    HallWord::Book,
-];
+    fn fmt<W: fmt::Write>(&self, f: &mut fmt::Formatter<W>) -> fmt::Result {
+        f.write_str(self.text())
+    }
+}
 
-// A call of the card of that hall: the word of the call, and its arguments.
-fn hall_call(heap: Global, hall: Hall, tail: &[u8]) -> Result<HallLine, AllocError>
-    ensures { IfOk result (λ got. hall_line_meaning got ≡ spoken (hall_call_meant hall tail.now)) }
+// What a line for two halls can ask for.
+#[derive(Drop)]
+pub enum HallCommand {
+    // call the card of that hall
+    Call { hall: Hall, call: Call<Vec<u8>> },
+    // let both halls use that book
+    Book(BookChoice),
+}
+
+// A call of a card: the word of the call, and its arguments.
+fn named_call(heap: Global, tail: &[u8]) -> Result<Call<Vec<u8>>, LineError>
+    ensures { Says call_asked result (hall_call_meant tail.now) }
 {
     let (name, args) = split_word(behind(tail));
-    let Some(word) = find(&CALLS, name) else {
-        return Ok(HallLine::Complaint(Complaint::UnknownCommand));
-    };
-    match card_call(heap, word, args)? {
-        Ok(call) => Ok(HallLine::Call { hall, call }),
-        Err(complaint) => Ok(HallLine::Complaint(complaint)),
-    }
+    card_call(heap, find(name).ok_or(Complaint::UnknownCommand)?, args)
 }
 
-// The line of that word with that tail.
-fn hall_line(heap: Global, word: &[u8], tail: &[u8]) -> Result<HallLine, AllocError>
-    ensures { IfOk result (λ got. hall_line_meaning got ≡ spoken (hall_word_meant (hall_word_named word.now) tail.now)) }
+// The command of that word with that tail.
+fn hall_command(heap: Global, word: &[u8], tail: &[u8]) -> Result<HallCommand, LineError>
+    ensures { Says hall_asked result (hall_word_meant (hall_word_named word.now) tail.now) }
 {
-    match find(&HALL_WORDS, word) {
-        Some(HallWord::Hall(hall)) => hall_call(heap, hall, tail),
-        Some(HallWord::Book) => match book_choice(heap, tail)? {
-            Ok(book) => Ok(HallLine::Book(book)),
-            Err(complaint) => Ok(HallLine::Complaint(complaint)),
-        },
-        None => Ok(HallLine::Complaint(Complaint::UnknownCommand)),
+    match find(word).ok_or(Complaint::UnknownCommand)? {
+        HallWord::Hall(hall) => {
+            let call = named_call(heap, tail)?;
+            Ok(HallCommand::Call { hall, call })
+        }
+        HallWord::Book => Ok(HallCommand::Book(book_choice(heap, tail)?)),
     }
 }
 
-// What a line for two halls is, which is given without the bytes that end it.
+// What a line for two halls asks for, which is given without the bytes that end it; nothing where it is silent.
 // An empty line and one that begins with `#` are silent. Any other is `1` or `2` and, behind a space, a call of the card
 // of that hall, or it is `book` and, behind a space, a book.
-pub fn parse_hall(heap: Global, line: &[u8]) -> Result<HallLine, AllocError>
-    ensures { IfOk result (λ got. hall_line_meaning got ≡ hall_line_meant line.now) }
+pub fn parse_hall(heap: Global, line: &[u8]) -> Result<Option<HallCommand>, LineError>
+    ensures { Says (option_map hall_asked) result (hall_line_meant line.now) }
 {
-    if let [] | [b'#', ..] = line {
-        return Ok(HallLine::Silent);
-    }
-    let (word, tail) = split_word(line);
-    hall_line(heap, word, tail)
+    let Some((word, tail)) = said(line) else {
+        return Ok(None);
+    };
+    Ok(Some(hall_command(heap, word, tail)?))
 }

@@ -6,6 +6,7 @@ mod book;
 mod call;
 pub mod complaint;
 pub mod cut;
+pub mod error;
 pub mod escape;
 pub mod hall;
 pub mod line;

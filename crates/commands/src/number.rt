@@ -6,15 +6,8 @@ ghost use Rattle.commands.specs.Numerals.{number_up_to};
 fn with_digit(n: u64, digit: u64, most: u64) -> Option<u64>
     ensures { result ≡ (if nat_le (10 * n + digit) most then Some (10 * n + digit) else None) }
 {
-    if n > most / 10 {
-        return None;
-    }
-    let tens = 10 * n;
-    if digit > most - tens {
-        None
-    } else {
-        Some(tens + digit)
-    }
+    let n = n.checked_mul(10)?.checked_add(digit)?;
+    (n <= most).then_some(n)
 }
 
 // The number that the bytes write in decimal, if they are digits, one or more, and it is at most `most`.

@@ -5,6 +5,7 @@ ghost use Rattle.commands.specs.Shows.{hex_digit, shown_byte, shown_bytes, Reads
 use std::alloc::{AllocError, Global};
 
 // The capital hexadecimal digit of that value.
+// Kept: by hand, since `{:X}` of the library has no stated output.
 fn hex_digit(value: u8) -> u8
     requires { value < 16 }
     ensures { result ≡ hex_digit value }
@@ -30,6 +31,7 @@ fn show_byte(b: u8, out: &mut Vec<u8>) -> Result<(), AllocError>
 // Adds to `out` what shows the bytes: byte 29 as `^`, the bytes from the space to the tilde as themselves but for
 // `^` and the backslash, any other byte as a backslash and two capital hexadecimal digits.
 // What is shown reads back as the bytes. Where there is no memory, `out` is as before.
+// Kept: a Display writes piece by piece, and could not leave `out` as before where there is no memory.
 pub fn show(bytes: &[u8], out: &mut Vec<u8>) -> Result<(), AllocError>
     ensures after { out.new.items ≡ (if is_ok result then out.old.items ++ shown_bytes bytes.now else out.old.items) }
     ensures back { ReadsBack bytes.now }

@@ -1,18 +1,21 @@
 use crate::complaint::Complaint;
 use crate::cut::trimmed;
-use crate::hall::{Hall, HallLine, parse_hall};
-use crate::line::{BookChoice, CardCall, Command, Line};
+use crate::error::Failure;
+use crate::hall::{Hall, HallCommand, parse_hall};
+use crate::line::{BookChoice, Command};
 use crate::number::number;
 use crate::parse::parse;
 use crate::show::show;
+use calls::call::Call;
 use forms::kind::FormKind;
 use std::alloc::{AllocError, Global};
 use std::test::Fail;
 
 // The year of a `turn`, if the line is one.
 fn year(heap: Global, line: &[u8]) -> Result<Option<u16>, AllocError> {
-    match parse(heap, line)? {
-        Line::Command(Command::Turn(year)) => Ok(Some(year)),
+    match parse(heap, line) {
+        Ok(Some(Command::Call(Call::Turn(year)))) => Ok(Some(year)),
+        Err(Failure::Memory(lack)) => Err(lack),
         _ => Ok(None),
     }
 }
@@ -36,7 +39,7 @@ fn turns(rt: HostRuntime) -> Result<(), Fail> {
 #[test]
 fn fields(rt: HostRuntime) -> Result<(), Fail> {
     match parse(rt.alloc(), b"field key ^a\\fF b")? {
-        Line::Command(
+        Some(
             Command::Field {
                 kind: FormKind::Key,
                 bytes,
@@ -53,8 +56,8 @@ fn fields(rt: HostRuntime) -> Result<(), Fail> {
 
 #[test]
 fn complaints(rt: HostRuntime) -> Result<(), Fail> {
-    match parse(rt.alloc(), b"field key \\0g")? {
-        Line::Complaint(complaint) => {
+    match parse(rt.alloc(), b"field key \\0g") {
+        Err(Failure::Refused(complaint)) => {
             assert!(rt; format!(in rt.alloc(); "{complaint}")?.as_str() == "? bad escape");
             Ok(())
         },
@@ -64,26 +67,29 @@ fn complaints(rt: HostRuntime) -> Result<(), Fail> {
 
 // The answer to a line for two halls that is a complaint.
 fn hall_complaint(heap: Global, line: &[u8]) -> Result<Option<Complaint>, AllocError> {
-    match parse_hall(heap, line)? {
-        HallLine::Complaint(complaint) => Ok(Some(complaint)),
-        _ => Ok(None),
+    match parse_hall(heap, line) {
+        Err(Failure::Refused(complaint)) => Ok(Some(complaint)),
+        Err(Failure::Memory(lack)) => Err(lack),
+        Ok(_) => Ok(None),
     }
 }
 
 #[test]
 fn halls(rt: HostRuntime) -> Result<(), Fail> {
     match parse_hall(rt.alloc(), b"2 turn 2026")? {
-        HallLine::Call {
-            hall,
-            call: CardCall::Turn(year),
-        } => {
+        Some(
+            HallCommand::Call {
+                hall,
+                call: Call::Turn(year),
+            },
+        ) => {
             assert_eq!(rt; hall, Hall::Second);
             assert_eq!(rt; year, 2026);
         }
         _ => return Err(Fail::new("no call")),
     }
     match parse_hall(rt.alloc(), b"book gs1")? {
-        HallLine::Book(BookChoice::Gs1) => {}
+        Some(HallCommand::Book(BookChoice::Gs1)) => {}
         _ => return Err(Fail::new("no book")),
     }
     assert_eq!(rt;

@@ -1,6 +1,6 @@
-use Rattle.std.proofs.Common.{◌++◌, get_or, take, vec_items, ap, ◌∙◌}
-use Rattle.commands.specs.Shows.{shown_byte, shown_bytes}
-use Rattle.commands.proofs.ShowsBack.{shown_more, shown_all, taken_back, bytes_back}
+use Rattle.std.proofs.Common.{take, vec_items, ◌∙◌}
+use Rattle.commands.specs.Shows.{shown_bytes}
+use Rattle.commands.proofs.ShowsBack.{shown_all, taken_back, bytes_back}
 use Rattle.commands.proofs.show.show.Goals as goal
 
 pub returns-in-Err : goal.returns-in-Err
@@ -9,12 +9,6 @@ returns-in-Err c =
       after = c.truncate.ensures.items ∙ taken_back (vec_items c.args.out.now) (shown_bytes (take c.loop-b.b-index c.args.bytes.now)) (vec_items c.show_byte.new.out) c.len-before.result (c.len-before.ensures ∙ c.args.out.now.ok.0) (c.in-Err.ensures ∙ c.loop-b.invariant);
       back = bytes_back c.args.bytes.now c.type_inv.bytes;
     }
-
-pub loop-b-preserved : goal.loop-b-preserved
-loop-b-preserved c =
-    c.in_default.ensures
-    ∙ ap (λ ys. ys ++ shown_byte (get_or c.args.bytes.now c.loop-b.b-index 0)) c.loop-b.invariant
-    ∙ shown_more (vec_items c.args.out.now) c.args.bytes.now c.loop-b.b-index c.loop-b-test.true
 
 pub returns : goal.returns
 returns c =
