@@ -1,5 +1,5 @@
 -- Words are a book exactly where they have no first fault.
-use Rattle.std.proofs.Common.{◌≡◌, ℕ, suc, ◌+◌, ◌-◌, ◌<◌, ◌≤◌, Bool, true, false, T, leb, List, [], ◌∷◌, ◌++◌, length, get_or, take, drop, is_some, Some, None, Option, sym, refl, ap, ◌∙◌, subst, arith}
+use Rattle.std.proofs.Common.{◌≡◌, ℕ, suc, ◌+◌, ◌<◌, ◌≤◌, Bool, true, false, T, leb, List, [], ◌∷◌, ◌++◌, length, get_or, take, drop, is_some, Some, None, Option, sym, refl, ap, ◌∙◌, subst}
 use Rattle.std.proofs.lemmas.List.{append-nil, append_assoc, at_drop_more, at_drop_all, take_more}
 use Rattle.std.proofs.lemmas.Bool.{false≢true, and_parts, leb-true}
 use Rattle.books.specs.declared.entry.Entry.{Entry}
@@ -46,15 +46,8 @@ module _ (ws : List ℕ) (i : ℕ) (l : i < length ws) where
       at_drop_more (fault_from (take i ws)) ws i 0 l
       ∙ ap (λ xs. first_of (word_fault (take i ws) (get_or ws i 0)) (fault_from xs (drop (i + 1) ws))) (sym (take_more ws i 0 l))
 
-  -- the slice of the earlier words, as the code cuts it
-  cut : (o : Option BookFault) → o ≡ word_fault (take (i - 0) ws) (get_or ws i 0) → word_fault (take i ws) (get_or ws i 0) ≡ o
-  cut o e = let z : i - 0 ≡ i = omega arith in sym (rw z at e)
-
-  pub judged-fault : (f : BookFault) → Some f ≡ word_fault (take (i - 0) ws) (get_or ws i 0) → fault_from (take i ws) (drop i ws) ≡ Some f
-  judged-fault f e = judged-at ∙ ap (λ o. first_of o (fault_from (take (i + 1) ws) (drop (i + 1) ws))) (cut (Some f) e)
-
-  pub judged-clear : None ≡ word_fault (take (i - 0) ws) (get_or ws i 0) → fault_from (take i ws) (drop i ws) ≡ fault_from (take (i + 1) ws) (drop (i + 1) ws)
-  judged-clear e = judged-at ∙ ap (λ o. first_of o (fault_from (take (i + 1) ws) (drop (i + 1) ws))) (cut None e)
+  pub judged-fault : (f : BookFault) → word_fault (take i ws) (get_or ws i 0) ≡ Some f → fault_from (take i ws) (drop i ws) ≡ Some f
+  judged-fault f e = judged-at ∙ ap (λ o. first_of o (fault_from (take (i + 1) ws) (drop (i + 1) ws))) e
 
 -- every word is judged
 pub judged-all : (ws : List ℕ) (i : ℕ) → length ws ≤ i → fault_from (take i ws) (drop i ws) ≡ first_fault ws → first_fault ws ≡ None

@@ -3,7 +3,6 @@ pub mod Fronts
 pub mod Orders
 pub mod Alike
 pub mod Parts
-pub mod Walks
 pub mod Finds
 pub mod Lengths
 pub mod Grows

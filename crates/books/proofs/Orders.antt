@@ -1,13 +1,12 @@
 -- The order of texts: no two come before each other, and of two that differ one comes first.
-use Rattle.std.proofs.Common.{◌≡◌, ℕ, ◌+◌, ◌-◌, ◌*◌, ◌/◌, ◌%◌, ◌^◌, ◌<◌, ◌≤◌, Bool, true, false, cond, eqb, ltb, ◌⊎◌, List, [], ◌∷◌, length, sym, refl, ap, ◌∙◌, inl, inr, ⊎_elim, arith}
-use native.Mathlib.Nat.{div-div-eq-div-mul}
+use Rattle.std.proofs.Common.{◌≡◌, ℕ, ◌<◌, Bool, true, false, cond, eqb, ltb, ◌⊎◌, List, [], ◌∷◌, length, sym, refl, ap, ◌∙◌, inl, inr, ⊎_elim, arith}
 use Rattle.std.proofs.lemmas.Bool.{false≢true, and_parts, and_from, or_cases, or_left, or_right, ltb-true, lt-ltb, le-ltb, eqb-true, eq-eqb, cases_order}
-use Rattle.forms.specs.Bytes.{last_digits, number}
+use Rattle.forms.specs.Bytes.{number}
+use Rattle.forms.specs.Figures.{length-last_digits, number-last_digits}
 use Rattle.books.specs.declared.ident.Ident.{Ident}
 use Rattle.books.specs.Texts.{comes_first, predefined, rank}
 use Rattle.books.specs.Entries.{ident_text}
 use Rattle.books.proofs.Alike.{same_ident}
-use Rattle.books.proofs.Digits.{at_digits, length_digits}
 
 pub first_not_same : (xs : List ℕ) → comes_first xs xs ≡ false
 first_not_same [] = refl
@@ -57,20 +56,8 @@ same_kind_by_text t u e =
     let h : (b : Bool) → comes_first (cond b 0 1 ∷ t) (cond b 0 1 ∷ u) ≡ comes_first t u = λ b. elim b as (λ v. comes_first (cond v 0 1 ∷ t) (cond v 0 1 ∷ u) ≡ comes_first t u) [ true ↦ refl | false ↦ refl ] in
     rw e (h (predefined u))
 
-four_digits : (n p q r x y z w : ℕ) → x ≡ r → q ≡ 10 * r + y → p ≡ 10 * q + z → n ≡ 10 * p + w
-    → n ≡ 10 * (10 * (10 * (10 * 0 + (48 + x - 48)) + (48 + y - 48)) + (48 + z - 48)) + (48 + w - 48)
-four_digits n p q r x y z w a b c d = omega arith
-
--- the digits write the number
-pub digits_number : (n d : ℕ) → 2 ≤ d → d ≤ 4 → n < 10 ^ d → n ≡ number (last_digits d n)
-digits_number n =
-    let ten : n / 10 / 10 ≡ n / 100 = div-div-eq-div-mul n 10 10 in
-    let hundred : n / 100 / 10 ≡ n / 1000 = div-div-eq-div-mul n 100 10 in
-    at_digits (λ d. n < 10 ^ d → n ≡ number (last_digits d n)) (λ h. omega arith) (λ h. omega arith)
-    (λ h. four_digits n (n / 10) (n / 100) (n / 1000) (n / 1000 % 10) (n / 100 % 10) (n / 10 % 10) (n / 1 % 10) (omega arith) (omega arith) (omega arith) (omega arith))
-
 -- idents with one text are one ident
 pub same_text : (i j : Ident) → ident_text i ≡ ident_text j → i ≡ j
 same_text i j e =
-    same_ident i j (sym (length_digits i.digits i.number) ∙ ap length e ∙ length_digits j.digits j.number)
-    (digits_number i.number i.digits i.least i.most i.fits ∙ ap number e ∙ sym (digits_number j.number j.digits j.least j.most j.fits))
+    same_ident i j (sym (length-last_digits i.digits i.number) ∙ ap length e ∙ length-last_digits j.digits j.number)
+    (sym (number-last_digits i.digits i.number i.fits) ∙ ap number e ∙ number-last_digits j.digits j.number j.fits)

@@ -1,12 +1,10 @@
 -- An entry by its parts.
-use Rattle.std.proofs.Common.{◌≡◌, ℕ, ◌+◌, ◌/◌, ◌%◌, ◌^◌, Bool, true, false, cond, T, Some, None, Option, sym, refl, ap, ◌∙◌, MatchOption}
-use Rattle.std.proofs.lemmas.Bool.{eq-eqb}
+use Rattle.std.proofs.Common.{◌≡◌, ℕ, Bool, true, false, T, Some, None, Option, refl, ap, ◌∙◌, MatchOption}
 use Rattle.forms.specs.declared.kind.FormKind.{FormKind}
 use Rattle.books.specs.declared.entry.Entry.{Entry}
 use Rattle.books.specs.declared.ident.Ident.{Ident}
 use Rattle.books.specs.Lawful.{lawful}
 use Rattle.books.specs.Made.{checked, entry, entry_of}
-use Rattle.books.specs.Words.{form_of, of_form, word_entry}
 use Rattle.books.proofs.Alike.{same_ident, same_entry_lem}
 
 checked-yes : {A : Type 0} (b : Bool) (make : T b → A) (t : T b) → Some (make t) ≡ checked b make
@@ -36,10 +34,3 @@ pub made_of : (o : Option Entry) (i : Ident) (d n : ℕ) (f : FormKind) (s l : �
     → o ≡ entry_of d n f s l
 made_of None i d n f s l p q un = no_entry d n f s l (λ t. un (rw (p, q) t))
 made_of (Some e) i d n f s l p q h = by_parts e d n f s l (ap (λ j. j.digits) h.0 ∙ p) (ap (λ j. j.number) h.0 ∙ q) h.1 h.2 h.3
-
--- what a word spells, by the form that its top bits name
-pub word_read : (w : ℕ) (o : Option Entry) (f : FormKind) → w % 8 ≡ 0 → Some f ≡ form_of (w / 2 ^ 29)
-    → o ≡ entry_of (w / 2 ^ 27 % 4 + 1) (w / 2 ^ 13 % 2 ^ 14) f (w / 2 ^ 8 % 32) (w / 2 ^ 3 % 32) → o ≡ word_entry w
-word_read w o f z p h =
-    let of : Option FormKind → Option Entry = λ g. of_form g (w / 2 ^ 27 % 4 + 1) (w / 2 ^ 13 % 2 ^ 14) (w / 2 ^ 8 % 32) (w / 2 ^ 3 % 32) in
-    h ∙ ap of p ∙ ap (λ b. cond b (of (form_of (w / 2 ^ 29))) None) (sym (eq-eqb (w % 8) 0 z))

@@ -1,4 +1,5 @@
 pub mod Texts
+pub mod Shown
 pub mod Lawful
 pub mod Entries
 pub mod Made

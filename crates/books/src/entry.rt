@@ -11,6 +11,7 @@ use crate::ident::Ident;
 use forms::kind::FormKind;
 
 // A lawful entry: lengths in bytes that its form allows, and that make up the length that its ident predefines, if it does.
+// Kept: two lengths, and no struct of them, since `entry.longest` is plainer than `entry.lengths.longest`, and a type of lawful lengths would ask more of those who call `new`.
 #[derive(Clone, Copy, Debug)]
 pub struct Entry {
     pub ident: Ident,
@@ -24,6 +25,7 @@ pub struct Entry {
 }
 
 // Entries are equal where all that they say is.
+// Kept: by hand, since `eq` promises that it decides whether the two are one, and a derived `eq` promises its test alone.
 impl PartialEq for Entry {
     ghost eq = { eq_of_both
         (eq_of_both
@@ -36,10 +38,10 @@ impl PartialEq for Entry {
         ensures is { result ≡ (((self.now.ident.digits == other.now.ident.digits && self.now.ident.number == other.now.ident.number) && tag_of the_type self.now.form == tag_of the_type other.now.form) && self.now.shortest == other.now.shortest && self.now.longest == other.now.longest) }
         ensures decides { Decides result (self.now ≡ other.now) }
     {
-        (self.ident == other.ident)
-            & (self.form == other.form)
-            & (self.shortest == other.shortest)
-            & (self.longest == other.longest)
+        self.ident == other.ident
+            && self.form == other.form
+            && self.shortest == other.shortest
+            && self.longest == other.longest
     }
 }
 
@@ -47,7 +49,7 @@ impl PartialEq for Entry {
 fn in_bounds(shortest: u8, longest: u8) -> bool
     ensures { result ≡ in_bounds shortest longest }
 {
-    (1 <= shortest) & (shortest <= longest) & (longest <= 30)
+    1 <= shortest && shortest <= longest && longest <= 30
 }
 
 // Whether the form allows these lengths behind an ident of so many digits.
@@ -56,11 +58,11 @@ fn form_allows(form: FormKind, digits: u8, shortest: u8, longest: u8) -> bool
 {
     match form {
         FormKind::Text | FormKind::Digits => true,
-        FormKind::Key => (shortest == longest) & (2 <= longest) & (longest <= 18),
-        FormKind::Date => (shortest == 6) & (longest == 6),
-        FormKind::Stamp => (shortest == 10) & (longest == 10),
-        FormKind::Measure => (digits == 3) & (shortest == 7) & (longest == 7),
-        FormKind::Count => (shortest == 1) & (longest <= 8),
+        FormKind::Key => shortest == longest && (2..=18).contains(&longest),
+        FormKind::Date => shortest == 6 && longest == 6,
+        FormKind::Stamp => shortest == 10 && longest == 10,
+        FormKind::Measure => digits == 3 && shortest == 7 && longest == 7,
+        FormKind::Count => shortest == 1 && longest <= 8,
     }
 }
 
@@ -68,11 +70,11 @@ fn form_allows(form: FormKind, digits: u8, shortest: u8, longest: u8) -> bool
 fn fills_whole(whole: Option<u8>, digits: u8, shortest: u8, longest: u8) -> bool
     ensures { result ≡ fills whole digits shortest longest }
 {
-    match whole {
-        Some(total) => (digits as u16 + shortest as u16 == total as u16)
-            & (digits as u16 + longest as u16 == total as u16),
-        None => true,
-    }
+    whole.is_none_or(|total| {
+        let total = u16::from(total);
+        let digits = u16::from(digits);
+        digits + u16::from(shortest) == total && digits + u16::from(longest) == total
+    })
 }
 
 impl Entry {
@@ -80,10 +82,10 @@ impl Entry {
     pub fn new(ident: Ident, form: FormKind, shortest: u8, longest: u8) -> Option<Entry>
         ensures { MatchOption result (T (lawful ident.digits ident.number form shortest longest) → ⊥) (λ e. (e.ident ≡ ident) × (e.form ≡ form) × (e.shortest ≡ shortest) × (e.longest ≡ longest)) }
     {
-        let allowed = in_bounds(shortest, longest)
-            & form_allows(form, ident.digits, shortest, longest)
-            & fills_whole(ident.whole_length(), ident.digits, shortest, longest);
-        if allowed {
+        if in_bounds(shortest, longest)
+            && form_allows(form, ident.digits, shortest, longest)
+            && fills_whole(ident.whole_length(), ident.digits, shortest, longest)
+        {
             Some(Entry {
                 ident,
                 form,

@@ -8,7 +8,7 @@ ghost use Rattle.books.specs.Loads.{first_fault};
 use crate::book::Book;
 use crate::entry::Entry;
 use crate::fault::BookFault;
-use crate::load::first_fault;
+use crate::load::judge_all;
 use crate::spelled::look;
 
 // Words that are a book: at most 64 lawful entries, of which no ident equals or begins another.
@@ -42,9 +42,7 @@ impl<'a> HallBook<'a> {
         ensures book { MatchResult result (λ _. T (is_book words.now)) (λ _. T (is_book words.now) → ⊥) }
         ensures held { MatchResult result (λ _. self.new.words ≡ words.entry) (λ _. self.new ≡ self.old) }
     {
-        if let Some(fault) = first_fault(words) {
-            return Err(fault);
-        }
+        judge_all(words)?;
         self.words = words;
         Ok(())
     }

@@ -7,7 +7,9 @@ pub mod fault;
 pub mod gs1;
 pub mod hall;
 pub mod ident;
+pub mod ident_text;
 mod load;
+pub mod predefined;
 mod row;
 mod spelled;
 #[cfg(test)]

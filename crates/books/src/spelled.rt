@@ -18,12 +18,8 @@ pub(crate) trait Spelled {
 pub(crate) fn look<S: Spelled>(items: &[S], shown: &[u8]) -> Option<Entry>
     ensures { result ≡ found (listed S.Spelled.spells items.now) shown.now }
 {
-    for item in items {
-        if let Some(entry) = item.read() {
-            if entry.ident.begins(shown) {
-                return Some(entry);
-            }
-        }
-    }
-    None
+    items
+        .iter()
+        .filter_map(|item| item.read())
+        .find(|entry| entry.ident.begins(shown))
 }

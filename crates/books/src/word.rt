@@ -12,16 +12,7 @@ use forms::kind::FormKind;
 fn form_of(code: u32) -> Option<FormKind>
     ensures { result ≡ form_of code }
 {
-    match code {
-        0 => Some(FormKind::Text),
-        1 => Some(FormKind::Digits),
-        2 => Some(FormKind::Key),
-        3 => Some(FormKind::Date),
-        4 => Some(FormKind::Stamp),
-        5 => Some(FormKind::Measure),
-        6 => Some(FormKind::Count),
-        _ => None,
-    }
+    FormKind::ALL.get(code as usize).copied()
 }
 
 impl Spelled for u32 {

@@ -18,11 +18,11 @@ pub record Held (m : Meaning) (before after : List ℕ) (r : Reading) : Type 0 w
   pub long : r.len ≡ length (written m)
   pub wrote : after ≡ written m ++ drop r.len before
 
--- what is answered of the element in front of some bytes
-abbrev pub ReadsFront : Result Front ScanFault → ℕ → List ℕ → List ℕ → Result (Entry × Reading × ℕ) ScanFault → Type 0
-ReadsFront was y before after (Ok t) =
-    (x : Element) × (was ≡ Ok (record { element = x; taken = t.2 })) × (t.0 ≡ x.entry) × Held (meaning y x) before after t.1
-ReadsFront was y before after (Err e) = (was ≡ Err e) × (after ≡ before)
+-- what is answered of the element in front of bytes that stand at the place `at`
+abbrev pub ReadsFront : Result Front ScanFault → ℕ → ℕ → List ℕ → List ℕ → Result read.Element ScanFault → Type 0
+ReadsFront was y at before after (Ok r) =
+    (x : Element) × (taken : ℕ) × (was ≡ Ok (record { element = x; taken = taken })) × (r.next ≡ at + taken) × (r.entry ≡ x.entry) × Held (meaning y x) before after r.reading
+ReadsFront was y at before after (Err e) = (was ≡ Err e) × (after ≡ before)
 
 -- at the place `at` of a scan: nothing where it has ended, else the element in front of what stands there, or the fault
 abbrev pub Reads : List Entry → ℕ → ℕ → List ℕ → List ℕ → List ℕ → Result (Option read.Element) ScanFault → Type 0

@@ -1,13 +1,13 @@
 -- The rules by which an element is written, one by one.
-use Rattle.std.proofs.Common.{◌≡◌, ℕ, ◌+◌, ◌-◌, ◌*◌, ◌<◌, ◌≤◌, Bool, true, false, cond, leb, List, [], ◌∷◌, length, get_or, drop, None, sym, refl, ap, ◌∙◌, arith}
+use Rattle.std.proofs.Common.{◌≡◌, ℕ, ◌+◌, ◌-◌, ◌*◌, ◌<◌, ◌≤◌, Bool, true, false, cond, leb, List, [], ◌∷◌, length, get_or, drop, sym, refl, ap, ◌∙◌, arith}
 use Rattle.std.specs.List.{prefix_len, AllByRecursion as All}
 use Rattle.std.proofs.lemmas.List.Sums.{prefix_len-le-length}
-use Rattle.std.proofs.lemmas.Bool.{le-leb, lt-leb, leb-true, leb-false, cond-true, cond-false, and_right, false≢true}
+use Rattle.std.proofs.lemmas.Bool.{le-leb, lt-leb, leb-true, leb-false, cond-true, cond-false, false≢true}
 use Rattle.std.proofs.lemmas.Bool.Decides.{nat_tests}
 use Rattle.forms.specs.Bytes.{digit, allowed}
 use Rattle.symbols.specs.declared.code.CodeSet.{CodeSet}
 use Rattle.symbols.specs.declared.code.CodeSet.TheVariants.{B, C}
-use Rattle.symbols.specs.Encoding.{Steps, pair_of, ahead, values, clean, fixed_length}
+use Rattle.symbols.specs.Encoding.{Steps, pair_of, ahead, values, set_after, clean}
 
 both_true : (x y : Bool) (n : ℕ) → leb 2 (cond x (1 + cond y (1 + n) 0) 0) ≡ true → (x ≡ true) × (y ≡ true)
 both_true true true n e = (refl, refl)
@@ -31,16 +31,19 @@ two_digits a b bs e = both_true (digit a) (digit b) (prefix_len digit bs) e
 pub four_digits : (a b : ℕ) (bs : List ℕ) → ahead 4 (a ∷ b ∷ bs) ≡ true → (digit a ≡ true) × (digit b ≡ true)
 four_digits a b bs e = two_digits a b bs (four_two (prefix_len digit (a ∷ b ∷ bs)) e)
 
-pub two-long : (xs : List ℕ) → ahead 2 xs ≡ true → (2 ≤ length xs) × (digit (get_or xs 0 0) ≡ true) × (digit (get_or xs 1 0) ≡ true)
-two-long [] e = absurd (false≢true e)
-two-long (a ∷ []) e = absurd (one_short (digit a) e)
-two-long (a ∷ b ∷ bs) e = let p = two_digits a b bs e in (omega arith, p.0, p.1)
+pub one_ahead : (xs : List ℕ) → length xs < 2 → ahead 2 xs ≡ false
+one_ahead [] h = refl
+one_ahead (a ∷ []) h = elim (digit a) as (λ x. leb 2 (cond x 1 0) ≡ false) [ true ↦ refl | false ↦ refl ]
+one_ahead (a ∷ b ∷ bs) h = absurd (omega arith)
 
 -- in set C, two digits ahead make a pair
-pub rule_pair : (xs : List ℕ) → ahead 2 xs ≡ true → Steps C xs (pair_of (get_or xs 0 0) (get_or xs 1 0)) C (drop 2 xs)
-rule_pair [] e = absurd (false≢true e)
-rule_pair (a ∷ []) e = absurd (one_short (digit a) e)
-rule_pair (a ∷ b ∷ bs) e = record { vals = cond-true _ _ _ e; goes = cond-true _ _ _ e }
+pub rule_pair : (xs ys zs : List ℕ) (v : ℕ) → ys ≡ drop 1 xs → zs ≡ drop 1 ys → ahead 2 xs ≡ true → v ≡ pair_of (get_or xs 0 0) (get_or ys 0 0) → Steps C xs v C zs
+rule_pair [] ys zs v p q e r = absurd (false≢true e)
+rule_pair (a ∷ []) ys zs v p q e r = absurd (one_short (digit a) e)
+rule_pair (a ∷ b ∷ bs) ys zs v p q e r =
+    let w : v ≡ pair_of a b = r ∙ ap (λ l. pair_of a (get_or l 0 0)) p in
+    let z : zs ≡ bs = q ∙ ap (drop 1) p in
+    record { vals = cond-true _ _ _ e ∙ sym (λ k. w k ∷ values C (z k)); goes = cond-true _ _ _ e ∙ sym (ap (set_after C) z) }
 
 -- otherwise 100 goes to set B
 pub rule_to_b : (xs : List ℕ) → 0 < length xs → ahead 2 xs ≡ false → Steps C xs 100 B xs
@@ -111,9 +114,3 @@ pub clean-passes : (e : List ℕ) → length e ≤ clean e → prefix_len allowe
 clean-passes e h =
     let d = digits_pass e in let l = prefix_len-le-length allowed e in
     grind (arith, nat_tests)
-
--- fewer than two bytes predefine no length
-pub short_none : (e : List ℕ) → length e < 2 → None ≡ fixed_length e
-short_none [] h = refl
-short_none (a ∷ []) h = sym (cond-false _ _ _ (and_right (digit a) false refl))
-short_none (a ∷ b ∷ bs) h = absurd (omega arith)

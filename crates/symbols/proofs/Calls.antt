@@ -1,10 +1,9 @@
 -- What one call of add answers.
-use Rattle.std.proofs.Common.{◌≡◌, ℕ, ◌+◌, ◌<◌, ◌≤◌, Bool, false, List, length, Ok, Err, sym, ap, ◌∙◌, subst}
-use Rattle.std.proofs.lemmas.Bool.{cond-true, cond-false, lt-ltb, le-ltb}
+use Rattle.std.proofs.Common.{◌≡◌, ℕ, ◌≤◌, Bool, false, List, length, Ok, sym, ap, ◌∙◌, subst}
+use Rattle.std.proofs.lemmas.Bool.{cond-false, le-ltb}
 use Rattle.symbols.specs.declared.code.CodeSet.{CodeSet}
-use Rattle.symbols.specs.declared.fault.AddFault.TheVariants.{Full}
 use Rattle.symbols.specs.Encoding.{misfits, fixed_length, clean}
-use Rattle.symbols.specs.Writing.{Stage, written, grown, next, taken, Admitted, within_room, full, adding}
+use Rattle.symbols.specs.Writing.{Stage, grown, taken, Admitted, within_room, adding}
 use Rattle.symbols.proofs.Aheads.{clean-passes}
 
 -- an element that passes each test
@@ -29,11 +28,6 @@ same_stage t l m c b p el em ec eb ep =
     ap (λ x. staged x m c b p) el ∙ ap (λ x. staged t.len x c b p) em ∙ ap (λ x. staged t.len t.sum x b p) ec
     ∙ ap (λ x. staged t.len t.sum t.set x p) eb ∙ ap (λ x. staged t.len t.sum t.set t.bytes x) ep
 
--- the room that is left decides last
-pub no_room : (s : Stage) (e : List ℕ) (room n : ℕ) → taken s e ≡ Ok (next s e) → n ≡ length (written s e) → room < s.len + n → adding s e room ≡ Err (Full (full (s.len + n)))
-no_room s e room n h m l =
-    let k : room < (next s e).len = subst (λ (j : ℕ). room < s.len + j) m l in
-    ap (within_room room) h ∙ cond-true _ _ _ (lt-ltb room (next s e).len k) ∙ ap (λ j. Err (Full (full (s.len + j)))) (sym m)
-
+-- in a buffer with room
 pub has_room : (s t : Stage) (e : List ℕ) (room : ℕ) → taken s e ≡ Ok t → t.len ≤ room → adding s e room ≡ Ok t
 has_room s t e room h l = ap (within_room room) h ∙ cond-false _ _ _ (le-ltb room t.len l)

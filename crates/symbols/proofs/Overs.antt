@@ -2,7 +2,8 @@
 use Rattle.std.proofs.Common.{◌≡◌, ℕ, ◌+◌, ◌-◌, ◌≤◌, Bool, true, false, cond, List, [], ◌∷◌, ◌++◌, length, get_or, take, drop, set, sym, ap, ◌∙◌, arith}
 use borrow.Rule.Slice.PartMut.{put_mid}
 use Rattle.std.proofs.lemmas.List.{set-append_right, length-take-le, length-append, append_assoc, take_at, drop_more, drop-drop, take-append-drop}
-use Rattle.symbols.specs.Writing.{Over}
+use Rattle.symbols.specs.Encoding.{values}
+use Rattle.symbols.specs.Writing.{Stage, Over, written}
 
 -- two values
 pub over_two : (n y z : ℕ) (xs ys : List ℕ) → n + 2 ≤ length xs → ys ≡ set (set xs n y) (n + 1) z → Over n (y ∷ z ∷ []) xs ys
@@ -23,10 +24,13 @@ pub over_part : (a k : ℕ) (xs ys zs : List ℕ) → k ≡ length zs → ys ≡
 over_part a k xs ys zs e f =
     ap (λ q. take a xs ++ (ys ++ q)) (drop-drop k a xs) ∙ ap (λ n. take a xs ++ (ys ++ drop (a + n) xs)) e ∙ ap (λ q. take a xs ++ (q ++ drop (a + length zs) xs)) f
 
--- the separator
-pub front : (p : Bool) (m : ℕ) (xs : List ℕ) → m ≡ cond p 1 0 → take m (102 ∷ xs) ≡ cond p (102 ∷ []) []
-front true m xs e = ap (λ k. take k (102 ∷ xs)) e
-front false m xs e = ap (λ k. take k (102 ∷ xs)) e
+-- how many values an element adds
+pub written_long : (s : Stage) (e : List ℕ) → length (written s e) ≡ cond s.pending 1 0 + length (values s.set e)
+written_long s e = by s.pending
+  where
+    by : (p : Bool) → length (cond p (102 ∷ []) [] ++ values s.set e) ≡ cond p 1 0 + length (values s.set e)
+    by true = omega arith
+    by false = omega arith
 
 -- the front of what is written over
 pub over_front : (n m : ℕ) (vs before after : List ℕ) → Over n vs before after → length (take n before) ≡ n → m ≡ n + length vs → take m after ≡ take n before ++ vs

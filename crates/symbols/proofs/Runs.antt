@@ -5,16 +5,19 @@ use Rattle.std.proofs.lemmas.List.{append-nil, append_assoc, length-append}
 use Rattle.std.proofs.lemmas.Bool.{cond_both, ltb-false}
 use Rattle.forms.specs.Bytes.{allowed}
 use Rattle.symbols.specs.declared.state.Open.{Open}
+use Rattle.std.proofs.lemmas.Result.{err_from_is_err_and}
+use Rattle.std.specs.Result.{MatchResult, IsErrAnd}
+use Rattle.symbols.specs.declared.fault.WriterFault.{WriterFault}
 use Rattle.symbols.specs.declared.fault.AddFault.{AddFault}
 use Rattle.symbols.specs.Reading.{weighted, read_on, check_of, decoded}
 use Rattle.symbols.specs.Encoding.{separated, misfits, fixed_length, clean, joined_after, joined}
-use Rattle.symbols.specs.Writing.{Stage, stage, Over, opening, fresh, written, grown, next, taken, closing, taken_all, written_all, Stands}
+use Rattle.symbols.specs.Writing.{Stage, stage, Over, opening, fresh, written, grown, next, taken, closing, taken_all, written_all, Stands, Closes, Seals}
 use Rattle.symbols.specs.Laws.{CountsRight, ReadsBack}
 use Rattle.symbols.proofs.Checks.{check_append}
 use Rattle.symbols.proofs.Aheads.{all-text, clean-passes}
 use Rattle.symbols.proofs.Rounds.{reads_on}
 use Rattle.symbols.proofs.Frames.{decoded-sealed}
-use Rattle.symbols.proofs.Overs.{over_front}
+use Rattle.symbols.proofs.Overs.{over_two, over_front}
 
 -- what is known of an element that is taken
 pub record Took (s : Stage) (e : List ℕ) (t : Stage) : Type 0 where
@@ -161,3 +164,14 @@ stands-sealed n was before after e w es s =
     ap decoded (over_front was.len n (closing (stage was)) before after w (front_long es was before s) e
     ∙ ap (λ x. x ++ closing (stage was)) s.wrote ∙ append_assoc opening (written_all fresh es) (closing (stage was)))
     ∙ reads_back es (stage was) s.run
+
+-- what seal answers, from what the close of the symbol did
+pub seals_by : (was : Open) (before after : List ℕ) (r : Result ℕ WriterFault) (u : Result ℕ (Open × WriterFault)) (Q : WriterFault → Open × WriterFault → Type 0)
+    → ((f : WriterFault) (p : Open × WriterFault) → Q f p → p ≡ (was, f)) → MatchResult r (λ n. u ≡ Ok n) (λ f. IsErrAnd u (Q f))
+    → Closes r (stage was) before after → Seals u was before after
+seals_by was before after (Ok n) u Q q e d =
+    let w = over_two was.len was.sum 106 before after (omega (arith, d.1, d.2)) d.3 in
+    rw e (record { is = d.0; wrote = w; stands = stands-sealed n was before after d.1 w })
+seals_by was before after (Err f) u Q q e d =
+    let p = err_from_is_err_and u e in
+    rw (p.1, q f p.0 p.2) (d.0, refl, d.1)

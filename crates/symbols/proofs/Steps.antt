@@ -1,7 +1,7 @@
 -- One step of reading.
-use Rattle.std.proofs.Common.{◌≡◌, ℕ, ◌+◌, ◌-◌, ◌/◌, ◌%◌, ◌<◌, ◌≤◌, true, cond, leb, List, [], ◌∷◌, ◌++◌, length, Err, Result, refl, ap, ◌∙◌, arith}
+use Rattle.std.proofs.Common.{◌≡◌, ℕ, ◌+◌, ◌-◌, ◌/◌, ◌%◌, ◌≤◌, true, cond, leb, List, [], ◌∷◌, ◌++◌, length, Err, Result, refl, ap, ◌∙◌, arith}
 use Rattle.std.proofs.lemmas.List.{append-nil}
-use Rattle.std.proofs.lemmas.Bool.{le-leb, lt-leb, leb-true, and_parts, cond-true, cond-false}
+use Rattle.std.proofs.lemmas.Bool.{le-leb, leb-true, and_parts, cond-true}
 use Rattle.forms.specs.Bytes.{digit}
 use Rattle.symbols.specs.declared.code.CodeSet.{CodeSet}
 use Rattle.symbols.specs.declared.code.CodeSet.TheVariants.{B, C}
@@ -25,12 +25,6 @@ read_by s p v got vs =
 
 pub read_more : (s t : CodeSet) (p v : ℕ) (got bs vs : List ℕ) → meaning s v ≡ means bs t → length got + length bs ≤ 48 → read_on s p got (v ∷ vs) ≡ read_on t (p + 1) (got ++ bs) vs
 read_more s t p v got bs vs e h = read_by s p v got vs ∙ ap (after p got vs) e ∙ cond-true _ _ _ (le-leb _ _ h)
-
-pub read_long : (s t : CodeSet) (p v : ℕ) (got bs vs : List ℕ) → meaning s v ≡ means bs t → 48 < length got + length bs → read_on s p got (v ∷ vs) ≡ Err (TooLong p)
-read_long s t p v got bs vs e h = read_by s p v got vs ∙ ap (after p got vs) e ∙ cond-false _ _ _ (lt-leb _ _ h)
-
-pub read_no_use : (s : CodeSet) (p v : ℕ) (got vs : List ℕ) → meaning s v ≡ no_use → read_on s p got (v ∷ vs) ≡ Err (NoUse p)
-read_no_use s p v got vs e = read_by s p v got vs ∙ ap (after p got vs) e
 
 -- a change of set
 pub read_turn : (s t : CodeSet) (p v : ℕ) (got vs : List ℕ) → meaning s v ≡ means [] t → length got ≤ 48 → read_on s p got (v ∷ vs) ≡ read_on t (p + 1) got vs

@@ -1,11 +1,14 @@
 -- One turn of the reader's loop.
-use Rattle.std.proofs.Common.{◌≡◌, ℕ, ◌+◌, ◌<◌, ◌≤◌, List, [], ◌∷◌, ◌++◌, length, get_or, take, drop, set, Ok, Err, Result, sym, ap, ◌∙◌, arith}
-use Rattle.std.proofs.lemmas.List.{at_drop_more, at_drop_all, append-nil, append_assoc, take_more_set, length-set}
+use Rattle.std.proofs.Common.{◌≡◌, ℕ, ◌+◌, ◌<◌, ◌≤◌, List, ◌++◌, length, get_or, drop, Ok, Err, Result, sym, ap, ◌∙◌, arith}
+use Rattle.std.proofs.lemmas.List.{at_drop_more, length-take}
+use Rattle.std.proofs.lemmas.Bool.{false≢true}
+use Rattle.std.specs.Result.{MatchResult, is_ok}
+use Rattle.buffers.specs.declared.buffer.Buffer.{Buffer}
+use Rattle.buffers.specs.Shown.{shown}
 use Rattle.symbols.specs.declared.code.CodeSet.{CodeSet}
 use Rattle.symbols.specs.declared.fault.SymbolFault.{SymbolFault}
-use Rattle.symbols.specs.declared.fault.SymbolFault.TheVariants.{NoUse, TooLong}
-use Rattle.symbols.specs.Reading.{means, no_use, meaning, read_on}
-use Rattle.symbols.proofs.Steps.{read_more, read_long, read_no_use}
+use Rattle.symbols.specs.Reading.{means, meaning, read_on}
+use Rattle.symbols.proofs.Steps.{read_more}
 
 -- what is left of the body reads to R, before and after a turn
 pub walk_more : (R : Result (List ℕ) SymbolFault) (s t t' : CodeSet) (i : ℕ) (got got' bs body : List ℕ)
@@ -19,32 +22,11 @@ walk_more R s t t' i got got' bs body inv h m l et eg =
     ∙ sym (read_more s t (i + 2) (get_or body i 0) got bs (drop (i + 1) body) (sym m) l)
     ∙ sym (at_drop_more (read_on s (i + 2) got) body i 0 h) ∙ inv
 
-pub walk_long : (R : Result (List ℕ) SymbolFault) (s t : CodeSet) (i : ℕ) (got bs body : List ℕ)
-    → read_on s (i + 2) got (drop i body) ≡ R → i < length body → means bs t ≡ meaning s (get_or body i 0) → 48 < length got + length bs
-    → R ≡ Err (TooLong (i + 2))
-walk_long R s t i got bs body inv h m l =
-    sym inv ∙ at_drop_more (read_on s (i + 2) got) body i 0 h ∙ read_long s t (i + 2) (get_or body i 0) got bs (drop (i + 1) body) (sym m) l
+-- a buffer has no more bytes than it has room for
+pub shown_fits : (b : Buffer 48) → length (shown b) ≤ 48
+shown_fits b = omega (arith, length-take b.len b.bytes, b.within)
 
-pub walk_no_use : (R : Result (List ℕ) SymbolFault) (s : CodeSet) (i : ℕ) (got body : List ℕ)
-    → read_on s (i + 2) got (drop i body) ≡ R → i < length body → no_use ≡ meaning s (get_or body i 0)
-    → R ≡ Err (NoUse (i + 2))
-walk_no_use R s i got body inv h m =
-    sym inv ∙ at_drop_more (read_on s (i + 2) got) body i 0 h ∙ read_no_use s (i + 2) (get_or body i 0) got (drop (i + 1) body) (sym m)
-
-pub walk_done : (R : Result (List ℕ) SymbolFault) (s : CodeSet) (i : ℕ) (got body : List ℕ)
-    → read_on s (i + 2) got (drop i body) ≡ R → length body ≤ i → R ≡ Ok got
-walk_done R s i got body inv h = sym inv ∙ at_drop_all (read_on s (i + 2) got) body i h
-
--- what a turn writes
-pub took_none : (n n' : ℕ) (xs xs' : List ℕ) → n' ≡ n → xs' ≡ xs → take n' xs' ≡ take n xs ++ []
-took_none n n' xs xs' en ex = ap (λ m. take m xs') en ∙ ap (take n) ex ∙ sym (append-nil (take n xs))
-
-pub took_one : (n n' y : ℕ) (xs xs' : List ℕ) → n < length xs → n' ≡ n + 1 → xs' ≡ set xs n y → take n' xs' ≡ take n xs ++ (y ∷ [])
-took_one n n' y xs xs' h en ex = ap (λ m. take m xs') en ∙ ap (take (n + 1)) ex ∙ take_more_set xs n y h
-
-pub took_two : (n n' y z : ℕ) (xs xs' : List ℕ) → n + 1 < length xs → n' ≡ n + 2 → xs' ≡ set (set xs n y) (n + 1) z → take n' xs' ≡ take n xs ++ (y ∷ z ∷ [])
-took_two n n' y z xs xs' h en ex =
-    let e : n + 2 ≡ n + 1 + 1 = omega arith in
-    let l : length (set xs n y) ≡ length xs = length-set xs n y in
-    ap (λ m. take m xs') (en ∙ e) ∙ ap (take (n + 1 + 1)) ex ∙ take_more_set (set xs n y) (n + 1) z (omega arith)
-    ∙ ap (λ g. g ++ (z ∷ [])) (take_more_set xs n y (omega arith)) ∙ append_assoc (take n xs) (y ∷ []) (z ∷ [])
+-- a call that succeeded under another fault
+pub ok_under : {T D E : Type 0} (P : T → Type 0) (Q : E → Type 0) (r : Result T E) (u : Result T D) (x : T) → is_ok u ≡ is_ok r → u ≡ Ok x → MatchResult r P Q → (y : T) × P y
+ok_under P Q (Ok y) u x e h m = (y, m)
+ok_under P Q (Err f) u x e h m = absurd (false≢true (sym e ∙ ap is_ok h))

@@ -1,7 +1,8 @@
 -- The values of an element, and how elements follow one another in a symbol.
 use Rattle.std.specs.Prelude.{◌≡◌, ℕ, ◌+◌, ◌-◌, ◌*◌, Bool, false, cond, not, ◌&&◌, List, [], ◌∷◌, ◌++◌, is_some, Some, None, Option, ◌==◌, nat_le, nat_lt, slice_index}
 use Rattle.std.specs.List.{prefix_len}
-use Rattle.forms.specs.Bytes.{allowed, digit, pair, within}
+use Rattle.forms.specs.Bytes.{allowed, digit, pair}
+use Rattle.books.specs.Texts.{whole}
 use Rattle.symbols.specs.declared.code.CodeSet.{CodeSet}
 use Rattle.symbols.specs.declared.code.CodeSet.TheVariants.{B, C}
 
@@ -35,16 +36,9 @@ pub record Steps (s : CodeSet) (xs : List ℕ) (v : ℕ) (t : CodeSet) (ys : Lis
   pub vals : values s xs ≡ v ∷ values t ys
   pub goes : set_after s xs ≡ set_after t ys
 
--- the predefined lengths, of ident and field together, by an element's first two digits
+-- the predefined lengths, of ident and field together, by an element's first two digits: those of the books
 abbrev pub predefined : ℕ → Option ℕ
-predefined n =
-    cond (n == 0) (Some 20)
-    (cond (within 1 3 n) (Some 16)
-    (cond (n == 4) (Some 18)
-    (cond (within 11 19 n) (Some 8)
-    (cond (n == 20) (Some 4)
-    (cond (within 31 36 n) (Some 10)
-    (cond (n == 41) (Some 16) None))))))
+predefined n = whole n
 
 -- the predefined length of an element, if its first two bytes are digits that have one
 abbrev pub fixed_length : List ℕ → Option ℕ

@@ -4,7 +4,7 @@ use Rattle.forms.specs.Bytes.{two}
 use Rattle.symbols.specs.declared.code.CodeSet.{CodeSet}
 use Rattle.symbols.specs.declared.code.CodeSet.TheVariants.{B, C}
 use Rattle.symbols.specs.declared.reader.Said.{Said}
-use Rattle.symbols.specs.declared.reader.Said.TheVariants.{Pair, Byte, Change, Nothing}
+use Rattle.symbols.specs.declared.reader.Said.TheVariants.{Pair, Byte, Change}
 use Rattle.symbols.specs.declared.fault.SymbolFault.{SymbolFault}
 use Rattle.symbols.specs.declared.fault.SymbolFault.TheVariants.{Frame, CheckValue, NoUse, TooLong}
 use Rattle.symbols.specs.Sets.{other}
@@ -28,7 +28,6 @@ abbrev pub meant : CodeSet → Said → Meaning
 meant s (Pair a b) = means (a ∷ b ∷ []) s
 meant s (Byte b) = means (b ∷ []) s
 meant s Change = means [] (other s)
-meant s Nothing = no_use
 
 -- the data of the values that stand from a place on, behind the bytes `got`; never more than 48 bytes
 abbrev pub read_on : CodeSet → ℕ → List ℕ → List ℕ → Result (List ℕ) SymbolFault

@@ -1,6 +1,7 @@
 // The code sets, and the values with a use of their own.
-ghost use Rattle.std.specs.Prelude.{◌≡◌};
+ghost use Rattle.std.specs.Prelude.{◌≡◌, true, false, MatchOption};
 ghost use Rattle.symbols.specs.Sets.{other};
+ghost use Rattle.symbols.specs.Reading.{starts, start_set};
 
 // The sets of meanings that a symbol's values have.
 #[derive(Clone, Copy, Debug, PartialEq, Eq)]
@@ -17,6 +18,18 @@ impl CodeSet {
         match self {
             CodeSet::B => CodeSet::C,
             CodeSet::C => CodeSet::B,
+        }
+    }
+
+    // The set that a symbol is read in from its start on, if the value is a start.
+    // Kept: a function with a name, and no TryFrom, since a value names a set only where a symbol starts.
+    pub(crate) fn of_start(start: u8) -> Option<CodeSet>
+        ensures { MatchOption result (starts start ≡ false) (λ s. (starts start ≡ true) × (s ≡ start_set start)) }
+    {
+        match start {
+            START_B => Some(CodeSet::B),
+            START_C => Some(CodeSet::C),
+            _ => None,
         }
     }
 }

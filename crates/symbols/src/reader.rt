@@ -1,10 +1,12 @@
 // Reads symbols.
-ghost use Rattle.std.specs.Prelude.{◌≡◌, ◌+◌, ◌^◌, ◌<◌, ◌≤◌, [], length, take, Ok, Err};
-ghost use Rattle.symbols.specs.Reading.{meaning, meant, read_on, Decodes};
+ghost use Rattle.std.specs.Prelude.{◌≡◌, ◌+◌, ◌^◌, ◌<◌, [], length, Ok, Err, MatchOption, MatchResult};
+ghost use Rattle.buffers.specs.Shown.{shown};
+ghost use Rattle.symbols.specs.Reading.{no_use, meaning, meant, read_on, Decodes};
 
-use crate::code::{CodeSet, SEPARATOR, START_B, START_C, STOP, TO_B, TO_C};
+use crate::code::{CodeSet, SEPARATOR, STOP, TO_B, TO_C};
 use crate::encode::check_on;
 use crate::fault::SymbolFault;
+use buffers::buffer::Buffer;
 
 // What a value says.
 #[derive(Clone, Copy)]
@@ -15,54 +17,44 @@ enum Said {
     Byte(u8),
     // reading goes on in the other set
     Change,
-    // nothing: the value has no use in its set
-    Nothing,
 }
 
-// What a value says in its set.
-fn read_value(set: CodeSet, value: u8) -> Said
-    ensures { meant set result ≡ meaning set value }
+// What a value says in its set, if it has a use there.
+// Kept: the set and the value are matched together, which is the form that the project fixes for the decoder.
+fn read_value(set: CodeSet, value: u8) -> Option<Said>
+    ensures { MatchOption result (meaning set value ≡ no_use) (λ said. meaning set value ≡ meant set said) }
 {
-    match (set, value) {
-        (CodeSet::C, pair @ 0..=99) => Said::Pair(48 + pair / 10, 48 + pair % 10),
+    Some(match (set, value) {
+        (CodeSet::C, pair @ 0..=99) => Said::Pair(b'0' + pair / 10, b'0' + pair % 10),
         (CodeSet::C, TO_B) => Said::Change,
         (CodeSet::B, byte @ 0..=95) => Said::Byte(byte + 32),
         (CodeSet::B, TO_C) => Said::Change,
         (_, SEPARATOR) => Said::Byte(29),
-        _ => Said::Nothing,
-    }
+        _ => return None,
+    })
 }
 
-// Reads a symbol's body, which stands from place 2 on, and writes its data over the first bytes of `text`.
-fn read_body(start: CodeSet, body: &[u8], text: &mut [u8; 48]) -> Result<usize, SymbolFault>
+// Reads a symbol's body, which stands from place 2 on, to its data.
+fn read_body(start: CodeSet, body: &[u8]) -> Result<Buffer<48>, SymbolFault>
     requires { length body.now + 2 < 2 ^ 64 }
-    ensures { elim result [ Ok n ↦ (n ≤ 48) × (read_on start 2 [] body.now ≡ Ok (take n text.new)) | Err f ↦ read_on start 2 [] body.now ≡ Err f ] }
+    ensures { MatchResult result (λ text. read_on start 2 [] body.now ≡ Ok (shown text)) (λ f. read_on start 2 [] body.now ≡ Err f) }
 {
     let mut set = start;
-    let mut n: usize = 0;
-    for (i, v) in body.iter().enumerate() {
+    let mut text = Buffer::new();
+    for (i, value) in body.iter().enumerate() {
         let place = i + 2;
-        match read_value(set, *v) {
-            Said::Pair(a, b) => {
-                if n + 2 > 48 {
-                    return Err(SymbolFault::TooLong { place });
-                }
-                text[n] = a;
-                text[n + 1] = b;
-                n += 2;
+        let said = read_value(set, *value).ok_or(SymbolFault::NoUse { place })?;
+        let pushed = match said {
+            Said::Pair(a, b) => text.push(&[a, b]),
+            Said::Byte(b) => text.push(&[b]),
+            Said::Change => {
+                set = set.other();
+                Ok(())
             }
-            Said::Byte(b) => {
-                if n + 1 > 48 {
-                    return Err(SymbolFault::TooLong { place });
-                }
-                text[n] = b;
-                n += 1;
-            }
-            Said::Change => set = set.other(),
-            Said::Nothing => return Err(SymbolFault::NoUse { place }),
-        }
+        };
+        pushed.map_err(|_| SymbolFault::TooLong { place })?;
     }
-    Ok(n)
+    Ok(text)
 }
 
 // Reads a symbol, and writes its data over the first bytes of `out`; answers how many bytes that are.
@@ -71,25 +63,21 @@ pub fn decode(values: &[u8], out: &mut [u8; 48]) -> Result<usize, SymbolFault>
     ensures { Decodes result values.now out.old out.new }
 {
     let len = values.len();
-    if len < 4 {
+    let [start, mark, .., check, stop] = values else {
         return Err(SymbolFault::Frame { place: len });
-    }
-    let start = match values[0] {
-        START_B => CodeSet::B,
-        START_C => CodeSet::C,
-        _ => return Err(SymbolFault::Frame { place: 0 }),
     };
-    if values[1] != SEPARATOR {
+    let set = CodeSet::of_start(*start).ok_or(SymbolFault::Frame { place: 0 })?;
+    if *mark != SEPARATOR {
         return Err(SymbolFault::Frame { place: 1 });
     }
-    if values[len - 1] != STOP {
+    if *stop != STOP {
         return Err(SymbolFault::Frame { place: len - 1 });
     }
-    if values[len - 2] != check_on(values[0], 1, &values[1..len - 2]) {
+    if *check != check_on(*start, 1, &values[1..len - 2]) {
         return Err(SymbolFault::CheckValue { place: len - 2 });
     }
-    let mut text = [0; 48];
-    let n = read_body(start, &values[2..len - 2], &mut text)?;
-    out[0..n].copy_from_slice(&text[0..n]);
-    Ok(n)
+    let text = read_body(set, &values[2..len - 2])?;
+    let data = text.as_slice();
+    out[..data.len()].copy_from_slice(data);
+    Ok(data.len())
 }

@@ -4,6 +4,7 @@ ghost use Rattle.std.specs.Prelude.{◌+◌, ◌*◌, ◌<◌, ◌≤◌};
 use crate::code::CodeSet;
 
 // What is to be known of a symbol that is begun and not yet sealed. The values stand in a buffer, which each call is passed.
+// Kept: plain numbers, with the buffer passed at each call, which is the form that the project fixes for an open symbol.
 // It is moved into each call, so that a sealed symbol is not added to, and not sealed again. It may be let go.
 #[derive(Drop)]
 pub struct Open {

@@ -1,13 +1,15 @@
 // Writes symbols, element by element.
 ghost use Rattle.std.specs.Prelude.{◌≡◌, length};
-ghost use Rattle.symbols.specs.Encoding.{predefined, fixed_length, misfits, separated, clean};
+ghost use Rattle.symbols.specs.Encoding.{fixed_length, misfits, separated, clean};
 ghost use Rattle.symbols.specs.Writing.{Begins, Admits, Adds, Closes, Seals, stage};
 ghost use Rattle.symbols.specs.Laws.{CountsRight, ReadsBack};
 
 use crate::code::{CodeSet, SEPARATOR, START_C, STOP};
-use crate::encode::{check_on, encode};
+use crate::encode::{check_on, encode, pair_value};
 use crate::fault::{AddFault, WriterFault};
 use crate::state::Open;
+use books::predefined::predefined_length;
+use buffers::buffer::Buffer;
 use forms::bytes::{DigitByte, TextByte, passed};
 
 // Begins a symbol: writes its start and the value that marks it over the first two bytes of `buf`.
@@ -28,27 +30,12 @@ pub fn begin(buf: &mut [u8]) -> Result<Open, WriterFault>
     })
 }
 
-// The predefined length of elements by their first two digits, if they have one.
-fn predefined_length(first_two: u8) -> Option<usize>
-    ensures { result ≡ predefined first_two }
-{
-    match first_two {
-        0 => Some(20),
-        1..=3 | 41 => Some(16),
-        4 => Some(18),
-        11..=19 => Some(8),
-        20 => Some(4),
-        31..=36 => Some(10),
-        _ => None,
-    }
-}
-
 // The length that an element's first two digits predefine, if they do.
-fn fixed_length(element: &[u8]) -> Option<usize>
+fn fixed_length(element: &[u8]) -> Option<u8>
     ensures { result ≡ fixed_length element.now }
 {
     match element {
-        [a @ b'0'..=b'9', b @ b'0'..=b'9', ..] => predefined_length(10 * (*a - 48) + (*b - 48)),
+        [a @ b'0'..=b'9', b @ b'0'..=b'9', ..] => predefined_length(pair_value(*a, *b)),
         _ => None,
     }
 }
@@ -77,7 +64,7 @@ fn wrong_length(element: &[u8]) -> bool
     ensures { result ≡ misfits (length element.now) (fixed_length element.now) }
 {
     match fixed_length(element) {
-        Some(n) => element.len() != n,
+        Some(n) => element.len() != usize::from(n),
         None => element.len() < 2,
     }
 }
@@ -93,8 +80,7 @@ fn admitted(symbol: &Open, element: &[u8]) -> Result<usize, AddFault>
     if place < element.len() {
         return Err(AddFault::Barred { place });
     }
-    let separator: u128 = if symbol.pending { 1 } else { 0 };
-    let length = symbol.bytes as u128 + (separator + element.len() as u128);
+    let length = symbol.bytes as u128 + (u128::from(symbol.pending) + element.len() as u128);
     if length > 48 {
         return Err(AddFault::TooLong { length });
     }
@@ -106,23 +92,26 @@ fn admitted(symbol: &Open, element: &[u8]) -> Result<usize, AddFault>
 pub fn add(symbol: Open, buf: &mut [u8], element: &[u8]) -> Result<Open, (Open, AddFault)>
     ensures { Adds result symbol element.now buf.old buf.new }
 {
+    // Kept: a match, since a refusal gives back the symbol, which the lines below still need.
     let bytes = match admitted(&symbol, element) {
         Ok(bytes) => bytes,
         Err(fault) => return Err((symbol, fault)),
     };
     // a separator, and at most two values for each of 48 bytes
-    let mut vals = [0; 97];
-    vals[0] = SEPARATOR;
-    let from = if symbol.pending { 1 } else { 0 };
-    let (n, set) = encode(symbol.set, element, &mut vals, from);
-    let len = symbol.len + n;
+    let mut written = Buffer::<97>::new();
+    if symbol.pending {
+        written.push(&[SEPARATOR]).unwrap();
+    }
+    let set = encode(symbol.set, element, &mut written);
+    let values = written.as_slice();
+    let len = symbol.len + values.len();
     if buf.len() < len {
         return Err((symbol, AddFault::Full(WriterFault { needed: len })));
     }
-    buf[symbol.len..len].copy_from_slice(&vals[0..n]);
+    buf[symbol.len..len].copy_from_slice(values);
     Ok(Open {
         len,
-        sum: check_on(symbol.sum, symbol.len, &vals[0..n]),
+        sum: check_on(symbol.sum, symbol.len, values),
         set,
         bytes,
         pending: needs_separator(element),
@@ -149,8 +138,5 @@ pub fn seal(symbol: Open, buf: &mut [u8]) -> Result<usize, (Open, WriterFault)>
     ensures counts { CountsRight }
     ensures reads { ReadsBack }
 {
-    match close(&symbol, buf) {
-        Ok(n) => Ok(n),
-        Err(fault) => Err((symbol, fault)),
-    }
+    close(&symbol, buf).map_err(|fault| (symbol, fault))
 }

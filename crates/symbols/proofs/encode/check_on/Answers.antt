@@ -1,6 +1,4 @@
 use Rattle.std.proofs.Common.{◌+◌, ◌*◌, ◌%◌, get_or, ap, ◌∙◌, arith}
-use Rattle.std.proofs.lemmas.List.{take_all}
-use Rattle.symbols.specs.Reading.{weighted}
 use Rattle.symbols.proofs.Checks.{sum_more}
 use Rattle.symbols.proofs.encode.check_on.Goals as goal
 
@@ -10,10 +8,3 @@ loop-j-preserved c =
       c.weighed-s.ensures ∙ ap (λ s. (s + (p + j) % 103 * get_or xs j 0) % 103) c.loop-j.invariant.0 ∙ sum_more c.args.sum p xs j c.loop-j-test.true,
       omega (arith, c.weighed-s.ensures),
     )
-
-pub returns : goal.returns
-returns c =
-    record {
-      is = c.loop-j.invariant.0 ∙ ap (λ xs. (c.args.sum + weighted c.args.place xs) % 103) (take_all c.loop-j.j c.args.more.now c.loop-j-test.false);
-      small = c.loop-j.invariant.1;
-    }

@@ -1,12 +1,16 @@
-use Rattle.std.proofs.Common.{◌≡◌, ◌≤◌, ◌++◌, length, take, drop}
+use Rattle.std.proofs.Common.{◌≡◌, ◌++◌, length}
+use Rattle.std.specs.List.{prefix_len}
+use Rattle.buffers.specs.Shown.{shown}
+use Rattle.forms.specs.Bytes.{allowed}
 use Rattle.symbols.specs.Encoding.{values, set_after}
 use Rattle.symbols.proofs.encode.encode.Given as goal
 
-abbrev pub invariant-loop-i : goal.invariant-loop-i
-invariant-loop-i l =
-    (take l.n l.out ++ values l.set (drop l.i l.element) ≡ take l.initial.n l.initial.out ++ values l.initial.set l.element)
-    × (set_after l.set (drop l.i l.element) ≡ set_after l.initial.set l.element)
-    × (length l.out ≡ 97) × (l.n ≤ 97) × (l.i ≤ length l.element)
+abbrev pub invariant-loop-coded : goal.invariant-loop-coded
+invariant-loop-coded l = record {
+  wrote : shown l.out ++ values l.set l.rest ≡ shown l.initial.out ++ values l.fn.start l.element;
+  goes : set_after l.set l.rest ≡ set_after l.fn.start l.element;
+  text : prefix_len allowed l.rest ≡ length l.rest;
+}
 
-abbrev pub decreases-loop-i : goal.decreases-loop-i
-decreases-loop-i l = length (values l.set (drop l.i l.element))
+abbrev pub decreases-loop-coded : goal.decreases-loop-coded
+decreases-loop-coded l = length (values l.set l.rest)

@@ -1,31 +1,25 @@
-use Rattle.std.proofs.Common.{◌≡◌, length, take, ◌∙◌, arith}
-use Rattle.std.proofs.lemmas.List.{length-take-le}
-use Rattle.symbols.proofs.Walks.{walk_more, walk_long, walk_no_use, walk_done, took_none, took_one, took_two}
+use Rattle.std.proofs.Common.{◌≡◌, ◌++◌, [], ◌∷◌, get_or, length, sym, ap, ◌∙◌, arith}
+use Rattle.std.proofs.lemmas.List.{length-append, append-nil}
+use Rattle.std.specs.Result.{is_ok}
+use Rattle.buffers.specs.Shown.{shown}
+use Rattle.symbols.specs.Reading.{meaning, meant}
+use Rattle.symbols.proofs.Walks.{walk_more, shown_fits, ok_under}
 use Rattle.symbols.proofs.reader.read_body.Goals as goal
-use Rattle.symbols.proofs.reader.read_body.Goals.{in-Pair+else-n-gt48, in-Byte+else-n-gt48-2, in-Change}
-
-pub returns-then-n-gt48 : goal.returns-then-n-gt48
-returns-then-n-gt48 c =
-    let l : length (take c.loop-i.n c.loop-i.text) ≡ c.loop-i.n = length-take-le c.loop-i.n c.loop-i.text (omega arith) in
-    walk_long _ _ _ _ _ _ _ c.loop-i.invariant.2 c.loop-i-test.true c.in-Pair.ensures (omega arith)
-
-pub returns-then-n-gt48-2 : goal.returns-then-n-gt48-2
-returns-then-n-gt48-2 c =
-    let l : length (take c.loop-i.n c.loop-i.text) ≡ c.loop-i.n = length-take-le c.loop-i.n c.loop-i.text (omega arith) in
-    walk_long _ _ _ _ _ _ _ c.loop-i.invariant.2 c.loop-i-test.true c.in-Byte.ensures (omega arith)
-
-pub returns-in-Nothing : goal.returns-in-Nothing
-returns-in-Nothing c = walk_no_use _ _ _ _ _ c.loop-i.invariant.2 c.loop-i-test.true c.in-Nothing.ensures
+use Rattle.symbols.proofs.reader.read_body.Goals.{in-Pair, in-Byte, in-Change}
 
 pub loop-i-preserved : goal.loop-i-preserved
 loop-i-preserved c =
-    let l : length (take c.loop-i.n c.loop-i.text) ≡ c.loop-i.n = length-take-le c.loop-i.n c.loop-i.text (omega arith) in
-    let i = c.loop-i.invariant.2 in let t = c.loop-i-test.true in
-    elim c.match-read_value.branch [
-      | in-Pair+else-n-gt48 w ↦ (omega (arith, w.n-is), c.match-read_value.array_long, walk_more _ _ _ _ _ _ _ _ _ i t w.in-Pair.ensures (omega arith) w.set-is (took_two _ _ _ _ _ _ (omega arith) w.n-is w.text-is))
-      | in-Byte+else-n-gt48-2 w ↦ (omega (arith, w.n-is), c.match-read_value.array_long, walk_more _ _ _ _ _ _ _ _ _ i t w.in-Byte.ensures (omega arith) w.set-is (took_one _ _ _ _ _ (omega arith) w.n-is w.text-is))
-      | in-Change w ↦ (omega (arith, w.n-is), c.match-read_value.array_long, walk_more _ _ _ _ _ _ _ _ _ i t w.in-Change.ensures (omega arith) (w.set-is ∙ w.other-set.ensures) (took_none _ _ _ _ w.n-is w.text-is))
+    let v = get_or c.args.body.now c.loop-i.i 0 in
+    let got = shown c.loop-i.text in
+    let said : meaning c.loop-i.set v ≡ meant c.loop-i.set c.in_ok-said.said = let h = c.read_value.ensures in rw c.in_ok-said.ensures.ok_part at h in
+    let fits = shown_fits c.match-said.text in
+    elim c.match-said.branch [
+      | in-Pair w ↦ (let e = (ok_under _ _ w.push-pushed.result _ _ (c.map_err.ensures.variant ∙ ap is_ok w.pushed-is) c.in_ok-map_err.was w.push-pushed.ensures).1 in
+          let g : shown c.match-said.text ≡ got ++ w.in-Pair.a ∷ w.in-Pair.b ∷ [] = ap shown w.text-is ∙ e in
+          walk_more _ _ _ _ _ got _ (w.in-Pair.a ∷ w.in-Pair.b ∷ []) _ c.loop-i.invariant c.loop-i-test.true (sym (said ∙ ap (meant c.loop-i.set) w.in-Pair.is)) (omega (arith, fits, ap length g, length-append got (w.in-Pair.a ∷ w.in-Pair.b ∷ []))) w.set-is g)
+      | in-Byte w ↦ (let e = (ok_under _ _ w.push-pushed-in-Byte.result _ _ (c.map_err.ensures.variant ∙ ap is_ok w.pushed-is) c.in_ok-map_err.was w.push-pushed-in-Byte.ensures).1 in
+          let g : shown c.match-said.text ≡ got ++ w.in-Byte.b ∷ [] = ap shown w.text-is ∙ e in
+          walk_more _ _ _ _ _ got _ (w.in-Byte.b ∷ []) _ c.loop-i.invariant c.loop-i-test.true (sym (said ∙ ap (meant c.loop-i.set) w.in-Byte.is)) (omega (arith, fits, ap length g, length-append got (w.in-Byte.b ∷ []))) w.set-is g)
+      | in-Change w ↦ (let g : shown c.match-said.text ≡ got ++ [] = ap shown w.text-is ∙ sym (append-nil got) in
+          walk_more _ _ _ _ _ got _ [] _ c.loop-i.invariant c.loop-i-test.true (sym (said ∙ ap (meant c.loop-i.set) w.in-Change.is)) (omega (arith, shown_fits c.loop-i.text)) (w.set-is ∙ w.other-set.ensures) g)
     ]
-
-pub returns : goal.returns
-returns c = (c.loop-i.invariant.0, walk_done _ _ _ _ _ c.loop-i.invariant.2 c.loop-i-test.false)

@@ -1,11 +1,12 @@
-use Rattle.std.proofs.Common.{refl}
-use Rattle.books.proofs.Digits.{written}
+use Rattle.std.proofs.Common.{◌++◌, length, drop, ap, ◌∙◌}
+use Rattle.forms.specs.Figures.{length-last_digits}
 use Rattle.books.proofs.ident.Ident.write.Goals as goal
 
-pub returns : goal.returns
-returns c =
-    let self = c.args.self.now in
-    let both =
-    written self.number self.digits c.digit.result c.digit-2.result c.digit-3.result c.digit-4.result c.args.out.now c.copy_from_slice.new.self
-    self.least self.most c.digit.ensures c.digit-2.ensures c.digit-3.ensures c.digit-4.ensures c.copy_from_slice.ensures.after in
-    record { count = refl; front = both.0; text = both.1 }
+pub returns-clause-count : goal.returns-clause-count
+returns-clause-count c = ap length (c.as_slice-digits.ensures ∙ c.text-text.ensures) ∙ length-last_digits c.args.self.now.digits c.args.self.now.number
+
+pub returns-clause-text : goal.returns-clause-text
+returns-clause-text c =
+    let own = c.as_slice-digits.ensures ∙ c.text-text.ensures in
+    let many = ap length own ∙ length-last_digits c.args.self.now.digits c.args.self.now.number in
+    λ k. (c.copy_from_slice.ensures.after ∙ own) k ++ drop (many k) c.args.out.now

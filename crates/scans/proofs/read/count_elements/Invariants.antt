@@ -2,7 +2,7 @@ use Rattle.std.proofs.Common.{◌-◌, ◌≤◌, length}
 use Rattle.scans.specs.Elements.{scanned}
 use Rattle.scans.specs.Reads.{counted}
 use Rattle.scans.proofs.Walks.{Left}
-use Rattle.scans.proofs.read.count.Given as goal
+use Rattle.scans.proofs.read.count_elements.Given as goal
 
 abbrev pub invariant-loop-element : goal.invariant-loop-element
 invariant-loop-element g l =
