@@ -1,7 +1,7 @@
 -- How the rows of a card are cut into the runs of its symbols.
-use Rattle.std.proofs.Common.{◌≡◌, ℕ, ◌+◌, ◌*◌, ◌<◌, ◌≤◌, Bool, true, false, cond, not, leb, List, [], ◌∷◌, ◌++◌, map, length, get_or, take, drop, sym, refl, ap, ◌∙◌, arith, length-append, length-drop}
-use Rattle.std.proofs.lemmas.List.{map_more, at_drop_all, drop-drop, get_or-drop}
-use Rattle.std.proofs.lemmas.Bool.{cond-true, cond-false, le-leb, lt-leb}
+use Rattle.std.proofs.Common.{◌≡◌, ℕ, suc, ◌+◌, ◌*◌, ◌<◌, ◌≤◌, Bool, true, false, cond, not, leb, List, [], ◌∷◌, ◌++◌, map, length, get_or, take, drop, sym, refl, ap, ◌∙◌, arith, length-append}
+use Rattle.std.proofs.lemmas.List.{map_more, at_drop_all}
+use Rattle.std.proofs.lemmas.Bool.{cond-true, cond-false, cond_both, le-leb, lt-leb}
 use Rattle.symbols.proofs.Runs.{sep_long}
 use Rattle.books.specs.Texts.{predefined}
 use Rattle.cards.specs.declared.row.Row.{Row}
@@ -36,7 +36,7 @@ spelled-more xs x =
     ap length (sym (spelled-after (xs ++ x ∷ []))) ∙ after_more false xs x ∙ ap (λ l. length l + (cond (pending_after false xs) 1 0 + length (piece x))) (spelled-after xs)
 
 -- an element has at most 34 bytes
-piece-short : (r : Row) → length (piece (held_in r)) ≤ 34
+pub piece-short : (r : Row) → length (piece (held_in r)) ≤ 34
 piece-short r = let l = (piece-long r).0 in let a = r.entry.ident.most in let b = r.short in omega arith
 
 at_most_one : (b : Bool) → cond b 1 0 ≤ 1
@@ -139,40 +139,18 @@ pub record Skipping (rows : List Row) (skipped from : ℕ) : Type 0 where
   pub counted : skipped ≤ length (runs (map held_in rows))
   pub rest : runs (map held_in (drop from rows)) ≡ drop skipped (runs (map held_in rows))
 
--- over one symbol more, which has r rows
-pub skip_on : (rows : List Row) (skipped from r : ℕ) → Skipping rows skipped from → Filled (drop from rows) r → Skipping rows (skipped + 1) (from + r)
-skip_on rows skipped from r s f =
-    let left = length-drop from rows in
-    let more = ap length (sym f.cut ∙ s.rest) ∙ length-drop skipped (runs (map held_in rows)) in
-    record {
-      each = omega (arith, s.each, f.some);
-      within = omega (arith, s.within, f.within, left);
-      counted = omega (arith, s.counted, more);
-      rest =
-          ap (λ rs. runs (map held_in rs)) (sym (drop-drop r from rows))
-          ∙ ap (drop 1) (sym f.cut ∙ s.rest)
-          ∙ drop-drop 1 skipped (runs (map held_in rows));
-    }
-
--- no row is left: all symbols were gone over
-pub skipped_all : (rows : List Row) (skipped from : ℕ) → Skipping rows skipped from → length rows ≤ from → skipped ≡ length (runs (map held_in rows))
-skipped_all rows skipped from s l =
-    let none = ap length (sym (at_drop_all (λ rs. runs (map held_in rs)) rows from l) ∙ s.rest) ∙ length-drop skipped (runs (map held_in rows)) in
-    omega (arith, none, s.counted)
-
 -- a row is left: it begins the next symbol, which has r rows
 pub record Next (rows : List Row) (skipped from r : ℕ) : Type 0 where
   pub below : skipped < length (runs (map held_in rows))
   pub is : get_or (runs (map held_in rows)) skipped [] ≡ map held_in (take r (drop from rows))
 
-pub skipped_some : (rows : List Row) (skipped from r : ℕ) → Skipping rows skipped from → Filled (drop from rows) r → Next rows skipped from r
-skipped_some rows skipped from r s f =
-    let e = sym f.cut ∙ s.rest in
-    let more = ap length e ∙ length-drop skipped (runs (map held_in rows)) in
-    record {
-      below = omega (arith, more);
-      is =
-          ap (λ n. get_or (runs (map held_in rows)) n []) (let z : skipped ≡ skipped + 0 = omega arith in z)
-          ∙ sym (get_or-drop skipped (runs (map held_in rows)) 0 [])
-          ∙ ap (λ l. get_or l 0 []) (sym e);
-    }
+-- there are not more symbols than elements
+fill_few : (run xs : List Held) → length (fill run xs) ≤ 1 + length xs
+fill_few run [] = omega arith
+fill_few run (x ∷ xs) =
+    let b = leb (length (spelled (run ++ x ∷ []))) 48 in
+    cond_both b (fill (run ++ x ∷ []) xs) (run ∷ fill (x ∷ []) xs) (λ (ys : List (List Held)). length ys ≤ 1 + suc (length xs)) (λ h. let a = fill_few (run ++ x ∷ []) xs in omega arith) (λ h. let a = fill_few (x ∷ []) xs in omega arith)
+
+pub runs_few : (hs : List Held) → length (runs hs) ≤ length hs
+runs_few [] = omega arith
+runs_few (x ∷ xs) = let a = fill_few (x ∷ []) xs in omega arith

@@ -17,3 +17,4 @@ pub mod Pieces
 pub mod Fillings
 pub mod Prints
 pub mod Chosen
+pub mod Finds

@@ -1,8 +1,8 @@
 -- The symbol of a run reads back to the run spelled.
-use Rattle.std.proofs.Common.{◌≡◌, ℕ, ◌+◌, ◌≤◌, Bool, true, false, cond, not, ◌&&◌, ◌||◌, T, eqb, ltb, List, [], ◌∷◌, ◌++◌, map, length, get_or, is_some, Some, None, Ok, Option, sym, refl, ap, ◌∙◌, inl, inr, ⊎_elim, arith, length-append}
+use Rattle.std.proofs.Common.{◌≡◌, ℕ, ◌+◌, ◌≤◌, Bool, true, false, cond, not, ◌&&◌, T, eqb, ltb, List, [], ◌∷◌, ◌++◌, map, length, get_or, is_some, Some, None, Ok, Option, refl, ap, ◌∙◌, inl, inr, arith, length-append}
 use Rattle.std.specs.List.{prefix_len}
-use Rattle.std.proofs.lemmas.Bool.{and_parts, and_from, cond-true, cond-false, cases_Bool, eqb-true, eq-eqb, le-ltb, not_from_true}
-use Rattle.forms.specs.Bytes.{allowed, digit, every, pair, within}
+use Rattle.std.proofs.lemmas.Bool.{and_parts, and_from, cond-true, cond-false, eqb-true, eq-eqb, le-ltb, not_from_true}
+use Rattle.forms.specs.Bytes.{allowed, digit, every, pair}
 use Rattle.forms.specs.Values.{written}
 use Rattle.forms.specs.Figures.{every-last_digits}
 use Rattle.forms.specs.Writings.{every-allowed}
@@ -20,25 +20,6 @@ use Rattle.symbols.proofs.Runs.{goes_on, run_by, sep_long, reads_back}
 use Rattle.cards.specs.Tallies.{Held, ident}
 use Rattle.cards.specs.Strings.{piece, parting, ending, spelled, reached, symbol_of}
 use Rattle.cards.proofs.Fitting.{Fits}
-
--- PREDEFINED LENGTHS
-
-or-none : (w : Bool) → (w || false) ≡ w
-or-none true = refl
-or-none false = refl
-
--- symbols and books predefine the same lengths
-predefined-alike : (n : ℕ) → predefined n ≡ whole n
-predefined-alike n =
-    ⊎_elim
-    (λ e. ap predefined (eqb-true n 41 e) ∙ ap whole (sym (eqb-true n 41 e)))
-    (λ e.
-    let last : Bool → Option ℕ =
-    λ b. cond (eqb n 0) (Some 20) (cond (within 1 3 n) (Some 16) (cond (eqb n 4) (Some 18) (cond (within 11 19 n) (Some 8) (cond (eqb n 20) (Some 4) (cond (within 31 36 n) (Some 10) (cond b (Some 16) None)))))) in
-    let second : Bool → Option ℕ =
-    λ b. cond (eqb n 0) (Some 20) (cond b (Some 16) (cond (eqb n 4) (Some 18) (cond (within 11 19 n) (Some 8) (cond (eqb n 20) (Some 4) (cond (within 31 36 n) (Some 10) None))))) in
-    ap last e ∙ ap second (sym (or-none (within 1 3 n))) ∙ ap (λ b. second (within 1 3 n || b)) (sym e))
-    (cases_Bool (eqb n 41))
 
 -- A PIECE
 
@@ -71,7 +52,7 @@ fixed_is : (x : Held) → fixed_length (piece x) ≡ whole (lead (ident x))
 fixed_is x =
     let d = ident-digits x in
     cond-true (digit (get_or (piece x) 0 0) && digit (get_or (piece x) 1 0)) (predefined (pair (piece x) 0)) None d.both
-    ∙ predefined-alike (pair (piece x) 0) ∙ ap whole d.first
+    ∙ ap whole d.first
 
 separated-is : (x : Held) → separated (piece x) ≡ not (texts.predefined (ident x))
 separated-is x = ap (λ o. not (is_some o)) (fixed_is x)

@@ -19,10 +19,6 @@ use Rattle.cards.proofs.Regulars.{same_overlap, regular-insert, regular-without}
 use Rattle.cards.proofs.Sames.{entry-same, meaning-same, meaning-itself}
 use Rattle.cards.proofs.Standing.{same_written}
 
--- rows as code cuts them off
-pub cut_front : (n : ℕ) (rows : List Row) → map held_in (take (n - 0) rows) ≡ first_held n rows
-cut_front n rows = ap (λ k. map held_in (take k rows)) (let z : n - 0 ≡ n = omega arith in z)
-
 pub first_long : (n : ℕ) (rows : List Row) → n ≤ length rows → length (first_held n rows) ≡ n
 first_long n rows h = length-map (take n rows) held_in ∙ length-take n rows ∙ (let z : min n (length rows) ≡ n = omega arith in z)
 
@@ -127,12 +123,11 @@ pub record Grown (y n : ℕ) (rows after : List Row) (r : Row) : Type 0 where
   pub kept : T (regular y (first_held (n + 1) after))
 
 pub card_grown : (y n k : ℕ) (rows after : List Row) (r : Row) → length rows ≡ 32 → n < 32 → T (regular y (first_held n rows))
-    → k ≡ seat (held_in r) (map held_in (take (n - 0) rows)) → k ≤ length (take (n - 0) rows)
+    → k ≡ seat (held_in r) (first_held n rows) → k ≤ n
     → crossed r.entry (first_held n rows) ≡ false → look (ident (held_in r)) (first_held n rows) ≡ None → stands y (held_in r) ≡ true
     → after ≡ take k rows ++ r ∷ take (length rows - 1 - k) (drop k rows) → Grown y n rows after r
-card_grown y n k rows after r long room kept seat-is within free absent lawful is =
-    let few : k ≤ n = (let a = length-take (n - 0) rows in omega arith) in
-    let held = grown n k rows after r (seat-is ∙ ap (seat (held_in r)) (cut_front n rows)) few (omega arith) is in
+card_grown y n k rows after r long room kept seat-is few free absent lawful is =
+    let held = grown n k rows after r seat-is few (omega arith) is in
     record {
       long = ap length is ∙ length-opened k rows r (omega arith) ∙ long;
       held = held;
@@ -147,12 +142,10 @@ pub record Shrunk (y n : ℕ) (i : List ℕ) (rows after : List Row) : Type 0 wh
   pub kept : T (regular y (first_held (n - 1) after))
 
 pub card_shrunk : (y n k : ℕ) (i : List ℕ) (rows after : List Row) → length rows ≡ 32 → n ≤ 32 → T (regular y (first_held n rows))
-    → Some k ≡ place_of i 0 (map held_in (take (n - 0) rows)) → k < length (take (n - 0) rows)
+    → Some k ≡ place_of i 0 (first_held n rows) → k < n
     → after ≡ take k rows ++ (drop (k + 1) rows ++ take 1 (drop k rows)) → Shrunk y n i rows after
-card_shrunk y n k i rows after long few kept place within is =
-    let below : k < n = (let a = length-take (n - 0) rows in omega arith) in
-    let here : place_of i 0 (first_held n rows) ≡ Some k = ap (place_of i 0) (sym (cut_front n rows)) ∙ sym place in
-    let u = place_under i 0 k (first_held n rows) here in
+card_shrunk y n k i rows after long few kept place below is =
+    let u = place_under i 0 k (first_held n rows) (sym place) in
     let none : k - 0 ≡ k = omega arith in
     let held = shrunk n k rows after below (omega arith) is ∙ ap (λ j. take j (first_held n rows) ++ drop (suc j) (first_held n rows)) (sym none) ∙ sym u.rest in
     record {

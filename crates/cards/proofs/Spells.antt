@@ -1,7 +1,5 @@
 -- Elements written one behind the other.
-use Rattle.std.proofs.Common.{◌≡◌, ℕ, ◌+◌, ◌-◌, ◌≤◌, Bool, true, false, cond, not, List, [], ◌∷◌, ◌++◌, length, take, drop, sym, refl, ap, ◌∙◌, append_assoc, arith, length-append, length-drop, length-take}
-use borrow.Rule.Slice.PartMut.{put_mid}
-use Rattle.std.proofs.lemmas.Slice.{take-put_mid}
+use Rattle.std.proofs.Common.{◌≡◌, ℕ, ◌+◌, Bool, true, false, cond, not, List, [], ◌∷◌, ◌++◌, length, sym, refl, ap, ◌∙◌, append_assoc, arith, length-append, length-take}
 use Rattle.forms.specs.Values.{written}
 use Rattle.forms.specs.Figures.{length-last_digits}
 use Rattle.books.specs.Texts.{predefined}
@@ -24,18 +22,6 @@ ending-after x (z ∷ zs) =
 pub spelled-after : (hs : List Held) → spelled_after false hs ≡ spelled hs
 spelled-after [] = refl
 spelled-after (x ∷ xs) = ap (λ r. piece x ++ r) (sym (ending-after x xs))
-
--- two parts written one behind the other
-pub parts_written : (out i t : List ℕ) (at m e : ℕ) → m ≡ at + length i → e ≡ m + length t → e ≤ length out → take e (put_mid m (e - m) (put_mid at (m - at) out i) t) ≡ take at out ++ (i ++ t)
-parts_written out i t at m e h k l =
-    let front = length-append (take at out) (i ++ drop (m - at) (drop at out)) in
-    let behind = length-append i (drop (m - at) (drop at out)) in
-    let a = length-take at out in
-    let b = length-drop (m - at) (drop at out) in
-    let d = length-drop at out in
-    take-put_mid m (e - m) (put_mid at (m - at) out i) t e k (omega arith)
-    ∙ ap (λ r. r ++ t) (take-put_mid at (m - at) out i m h (omega arith))
-    ∙ append_assoc (take at out) i t
 
 -- the length of a row's element
 pub piece-long : (r : Row) → (length (piece (held_in r)) ≡ r.entry.ident.digits + r.len) × (length (written (held_in r).value) ≡ r.len)

@@ -45,10 +45,14 @@ abbrev pub without : List ℕ → List Held → List Held
 without i [] = []
 without i (x ∷ xs) = cond (bytes_eq i (ident x)) xs (x ∷ without i xs)
 
--- a held one of another entry whose ident equals, begins or is begun by that of e
+-- x is of another entry than e, and has an ident that equals, begins or is begun by that of e
+abbrev pub crosses_one : Entry → Held → Bool
+crosses_one e x = not (same_entry e x.entry) && overlap (entries.text e) (ident x)
+
+-- one of them is so
 abbrev pub crossed : Entry → List Held → Bool
 crossed e [] = false
-crossed e (x ∷ xs) = (not (same_entry e x.entry) && overlap (entries.text e) (ident x)) || crossed e xs
+crossed e (x ∷ xs) = crosses_one e x || crossed e xs
 
 -- what is held once an element has been put on the card, and how many idents came to be held: 0 or 1
 pub record Put : Type 0 where

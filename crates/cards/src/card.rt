@@ -8,6 +8,7 @@ use forms::year::Year;
 
 // A card: a year, and at most 32 elements in canonical order, of which no ident equals or begins another, each lawful in the year.
 // It owns its memory, and asks for none.
+// Kept: an array with the number of rows in use beside it, since a card is fixed memory.
 #[derive(Clone, Copy)]
 pub struct Card {
     pub(crate) year: Year,

@@ -19,7 +19,7 @@ use scans::fault::ScanFault;
 fn same_writing(a: &Row, b: &Row) -> bool
     ensures { result ≡ bytes_eq (written (held_in a.now).value) (written (held_in b.now).value) }
 {
-    a.text[0..usize::from(a.len)] == b.text[0..usize::from(b.len)]
+    a.writing() == b.writing()
 }
 
 // Puts `new` at a place; what stood there and behind it moves on by one, and the last goes.
@@ -49,8 +49,8 @@ impl Card {
         ensures year { self.new.year ≡ self.old.year }
         ensures held { held_by self.new ≡ insert (held_in new) (held_by self.old) }
     {
+        let place = seat_of(self.held(), &new);
         let Card { len, rows, .. } = self;
-        let place = seat_of(&rows[0..*len], &new);
         make_room(rows, place, new);
         *len += 1;
     }
@@ -62,12 +62,11 @@ impl Card {
         ensures year { self.new.year ≡ self.old.year }
         ensures is { Puts (put at (held_by self.old) (held_in new)) self.old self.new result }
     {
-        if crosses(&self.rows[0..self.len], &new.entry) {
+        if crosses(self.held(), &new.entry) {
             return Err(ScanFault::Clash { place: at });
         }
-        let mut text = [0; 4];
-        let n = new.entry.ident.write(&mut text);
-        match place_of(&self.rows[0..self.len], &text[0..n]) {
+        let ident = new.entry.ident.text();
+        match place_of(self.held(), ident.as_slice()) {
             Some(place) => {
                 if same_writing(&new, &self.rows[place]) {
                     Ok(0)
@@ -89,7 +88,7 @@ impl Card {
     pub fn strike(&mut self, ident: &[u8]) -> Result<(), CardFault>
         ensures { Strikes (strike_outcome (tally self.old) ident.now) self.old self.new result }
     {
-        let Some(place) = place_of(&self.rows[0..self.len], ident) else {
+        let Some(place) = place_of(self.held(), ident) else {
             return Err(CardFault::NotHeld);
         };
         let Card { len, rows, .. } = self;

@@ -4,10 +4,12 @@
 pub mod card;
 mod change;
 pub mod fault;
+mod held;
 mod look;
 pub mod make;
 mod print;
 pub mod row;
+mod runs;
 mod scan;
 mod search;
 mod strings;

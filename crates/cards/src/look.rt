@@ -1,5 +1,7 @@
 // What a card holds.
-ghost use Rattle.std.specs.Prelude.{◌≡◌, ◌++◌, length, take, drop};
+ghost use Rattle.std.specs.Prelude.{◌≡◌, ◌++◌, length, drop};
+ghost use Rattle.forms.specs.Values.{written};
+ghost use Rattle.cards.specs.Rows.{held_in};
 ghost use Rattle.cards.specs.Cards.{held_by};
 ghost use Rattle.cards.specs.Looks.{Tells, Looks, Shows};
 
@@ -14,12 +16,12 @@ use forms::year::Year;
 impl Row {
     // Writes the value's writing over the first bytes of `text`, and says how many it wrote.
     fn write(&self, text: &mut [u8; 30]) -> usize
-        ensures long { result ≡ self.now.len }
-        ensures wrote { text.new ≡ take self.now.len self.now.text ++ drop self.now.len text.old }
+        ensures long { result ≡ length (written (held_in self.now).value) }
+        ensures wrote { text.new ≡ written (held_in self.now).value ++ drop result text.old }
     {
-        let len = usize::from(self.len);
-        text[0..len].copy_from_slice(&self.text[0..len]);
-        len
+        let writing = self.writing();
+        text[0..writing.len()].copy_from_slice(writing);
+        writing.len()
     }
 
     // The value; a text's bytes go over the first bytes of `text`, at any other value `text` stays.
@@ -39,7 +41,7 @@ impl Card {
     pub fn look(&self, ident: &[u8], text: &mut [u8; 30]) -> Option<Value>
         ensures { Looks ident.now (held_by self.now) text.old text.new result }
     {
-        let place = place_of(&self.rows[0..self.len], ident)?;
+        let place = place_of(self.held(), ident)?;
         Some(self.rows[place].tell(text))
     }
 
@@ -62,10 +64,7 @@ impl Card {
     pub fn element(&self, place: usize, text: &mut [u8; 30]) -> Option<(Ident, Reading)>
         ensures { Shows place (held_by self.now) text.old text.new result }
     {
-        if place >= self.len {
-            return None;
-        }
-        let row = self.rows[place];
+        let row = self.held().get(place)?;
         let len = row.write(text);
         Some((
             row.entry.ident,

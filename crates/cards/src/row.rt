@@ -8,6 +8,7 @@ use forms::value::Value;
 
 // An element that is held: its entry, its value, and beside the value its writing, the first `len` bytes of `text`.
 // A text's bytes are its writing. The writing has a length that the entry allows, and bytes that a text may hold.
+// Kept: an array with its length beside it, since a card is fixed memory, and as a writing is lent: 30 bytes and how many it wrote.
 #[derive(Clone, Copy)]
 pub struct Row {
     pub(crate) entry: Entry,

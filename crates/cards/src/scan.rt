@@ -1,5 +1,6 @@
 // Scans and symbols that are put on a card.
 ghost use Rattle.std.specs.Prelude.{◌≡◌, ℕ, ◌≤◌, true, ◌++◌, length, take};
+ghost use Rattle.buffers.specs.Shown.{shown};
 ghost use Rattle.forms.specs.Bytes.{allowed, every};
 ghost use Rattle.forms.specs.Values.{told, written};
 ghost use Rattle.scans.specs.Elements.{mark};
@@ -11,8 +12,10 @@ ghost use Rattle.cards.specs.Adding.{ScanLaw};
 
 use crate::card::Card;
 use crate::row::Row;
+use crate::strings::put;
 use books::book::Book;
 use books::entry::Entry;
+use buffers::buffer::Buffer;
 use forms::judge::Reading;
 use scans::element::next_element;
 use scans::fault::ScanFault;
@@ -37,13 +40,14 @@ fn row_of(entry: Entry, reading: Reading, text: [u8; 30]) -> Row
     }
 }
 
-// The bytes behind `]C1`.
-fn behind_mark(bytes: &[u8; 48]) -> [u8; 51]
-    ensures { result ≡ mark ++ bytes.now }
+// The bytes of a symbol's data behind `]C1`.
+fn behind_mark(bytes: &[u8]) -> Buffer<51>
+    requires { length bytes.now ≤ 48 }
+    ensures { shown result ≡ mark ++ bytes.now }
 {
-    let mut scan = [0; 51];
-    scan[0..3].copy_from_slice(b"]C1");
-    scan[3..51].copy_from_slice(bytes);
+    let mut scan = Buffer::new();
+    put(&mut scan, b"]C1");
+    put(&mut scan, bytes);
     scan
 }
 
@@ -59,20 +63,11 @@ impl Card {
         let mut text = [0; 30];
         let mut at = 3;
         let mut new = 0;
+        // Kept: no iterator, since each item would have to carry its place and a copy of its writing, which the loop has at hand.
         while let Some(element) = next_element(book, year, scan, at, &mut text)? {
             new += self.put(row_of(element.entry, element.reading, text), at)?;
             at = element.next;
         }
-        Ok(new)
-    }
-
-    // Puts all elements of a scan on the card, or refuses, and the card is as it was.
-    fn put_scan<B: Book>(&mut self, book: &B, scan: &[u8]) -> Result<usize, ScanFault>
-        ensures { Puts (scan_outcome (B.Book.entries book.now) (tally self.old) scan.now) self.old self.new result }
-    {
-        let mut card = *self;
-        let new = card.put_all(book, scan)?;
-        *self = card;
         Ok(new)
     }
 
@@ -82,16 +77,20 @@ impl Card {
         ensures is { Puts (scan_outcome (B.Book.entries book.now) (tally self.old) scan.now) self.old self.new result }
         ensures law { ScanLaw (B.Book.entries book.now) }
     {
-        self.put_scan(book, scan)
+        let mut card = *self;
+        let new = card.put_all(book, scan)?;
+        *self = card;
+        Ok(new)
     }
 
     // Puts all elements of a symbol's data on the card, as a scan of them would; or refuses, and the card is as it was.
     pub fn take<B: Book>(&mut self, book: &B, values: &[u8]) -> Result<usize, SymbolFault>
         ensures { Puts (take_outcome (B.Book.entries book.now) (tally self.old) values.now) self.old self.new result }
     {
+        // Kept: an array and a number, since `decode` writes into memory that is lent to it.
         let mut bytes = [0; 48];
         let n = decode(values, &mut bytes)?;
-        let scan = behind_mark(&bytes);
-        Ok(self.scan(book, &scan[0..3 + n])?)
+        let scan = behind_mark(&bytes[0..n]);
+        Ok(self.scan(book, scan.as_slice())?)
     }
 }

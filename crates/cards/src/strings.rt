@@ -1,60 +1,51 @@
 // The canonical string of a card.
-ghost use Rattle.std.specs.Prelude.{◌≡◌, ◌+◌, ◌≤◌, false, List, [], ◌∷◌, ◌++◌, map, length, take, if◌then◌else◌};
+ghost use Rattle.std.specs.Prelude.{◌≡◌, ◌+◌, ◌≤◌, false, map, ◌++◌, length};
+ghost use Rattle.buffers.specs.Shown.{shown};
 ghost use Rattle.cards.specs.Rows.{held_in};
 ghost use Rattle.cards.specs.Cards.{tally};
 ghost use Rattle.cards.specs.Strings.{piece, spelled_after, canonical, Writes};
 
 use crate::card::Card;
 use crate::row::Row;
+use buffers::buffer::Buffer;
 use symbols::fault::WriterFault;
 
 // As many bytes as 32 elements of at most 34 bytes and the separators between them can have.
 const LONGEST: usize = 1120;
 
-// Writes a row's element, ident and writing, from a place on, and says where it ends.
-pub(crate) fn write_piece(row: &Row, out: &mut [u8], at: usize) -> usize
-    requires { at + 34 ≤ length out.old }
-    ensures end { result ≡ at + length (piece (held_in row.now)) }
-    ensures near { result ≤ at + 34 }
-    ensures wrote { take result out.new ≡ take at out.old ++ piece (held_in row.now) }
+// Puts bytes behind those of a buffer that has room for them.
+pub(crate) fn put<const N: usize>(buffer: &mut Buffer<N>, bytes: &[u8])
+    requires { length (shown buffer.old) + length bytes.now ≤ N }
+    ensures { shown buffer.new ≡ shown buffer.old ++ bytes.now }
 {
-    let mut ident = [0; 4];
-    let n = row.entry.ident.write(&mut ident);
-    let middle = at + n;
-    let end = middle + usize::from(row.len);
-    out[at..middle].copy_from_slice(&ident[0..n]);
-    out[middle..end].copy_from_slice(&row.text[0..usize::from(row.len)]);
-    end
+    buffer.push(bytes).unwrap();
 }
 
-// Writes a separator at a place, if one is pending, and says where the bytes then end.
-fn write_separator(pending: bool, out: &mut [u8], at: usize) -> usize
-    requires { at + 1 ≤ length out.old }
-    ensures near { result ≤ at + 1 }
-    ensures wrote { take result out.new ≡ take at out.old ++ (if pending then 29 ∷ [] else []) }
+// A row's element as it is written: ident and writing.
+pub(crate) fn piece(row: &Row) -> Buffer<34>
+    ensures { shown result ≡ piece (held_in row.now) }
 {
-    if pending {
-        out[at] = 29;
-        at + 1
-    } else {
-        at
-    }
+    let mut piece = Buffer::new();
+    put(&mut piece, row.entry.ident.text().as_slice());
+    put(&mut piece, row.writing());
+    piece
 }
 
-// Writes rows one behind the other, and says how many bytes they have.
-fn spell(rows: &[Row], out: &mut [u8; LONGEST]) -> usize
+// Rows one behind the other, with the separators between them.
+fn spell(rows: &[Row]) -> Buffer<LONGEST>
     requires { length rows.now ≤ 32 }
-    ensures within { result ≤ 1120 }
-    ensures wrote { take result out.new ≡ spelled_after false (map held_in rows.now) }
+    ensures { shown result ≡ spelled_after false (map held_in rows.now) }
 {
-    let mut at = 0;
+    let mut string = Buffer::new();
     let mut pending = false;
     for row in rows {
-        at = write_separator(pending, out, at);
-        at = write_piece(row, out, at);
+        if pending {
+            put(&mut string, &[29]);
+        }
+        put(&mut string, piece(row).as_slice());
         pending = !row.entry.ident.predefined();
     }
-    at
+    string
 }
 
 // Writes bytes over the first of `out`, or refuses where it is too short, and `out` stays.
@@ -74,8 +65,7 @@ impl Card {
     pub fn canonical(&self, out: &mut [u8]) -> Result<usize, WriterFault>
         ensures { Writes (canonical (tally self.now)) out.old out.new result }
     {
-        let mut text = [0; LONGEST];
-        let n = spell(&self.rows[0..self.len], &mut text);
-        write_over(&text[0..n], out)
+        let string = spell(self.held());
+        write_over(string.as_slice(), out)
     }
 }

@@ -1,8 +1,8 @@
 // The year of a card.
-ghost use Rattle.std.specs.Prelude.{◌≡◌, map};
+ghost use Rattle.std.specs.Prelude.{◌≡◌, position};
 ghost use Rattle.cards.specs.Rows.{held_in};
 ghost use Rattle.cards.specs.Cards.{tally};
-ghost use Rattle.cards.specs.Tallies.{near as nearTo, outside, first_outside};
+ghost use Rattle.cards.specs.Tallies.{near as nearTo, outside};
 ghost use Rattle.cards.specs.Outcomes.{turn_outcome};
 ghost use Rattle.cards.specs.Answers.{Turns};
 
@@ -28,19 +28,14 @@ fn near(card: Year, year: u16) -> bool
     ensures { result ≡ nearTo card.number year }
 {
     let card = card.number();
-    (card <= year.saturating_add(49)) & (year <= card + 50)
+    (card - 49..=card + 50).contains(&year)
 }
 
 // The number of the first row with a date outside the span of a year.
 fn first_outside(rows: &[Row], year: Year) -> Option<usize>
-    ensures { result ≡ first_outside year.number 0 (map held_in rows.now) }
+    ensures { result ≡ position (λ r. outside year.number (held_in r).value) rows.now }
 {
-    for (i, row) in rows.iter().enumerate() {
-        if is_outside(row, year) {
-            return Some(i);
-        }
-    }
-    None
+    rows.iter().position(|row| is_outside(row, year))
 }
 
 impl Card {
@@ -51,7 +46,7 @@ impl Card {
         let Some(year) = Year::new(number) else {
             return Err(CardFault::NoSuchYear);
         };
-        if let Some(element) = first_outside(&self.rows[0..self.len], year) {
+        if let Some(element) = first_outside(self.held(), year) {
             return Err(CardFault::Outside { element });
         }
         self.year = year;

@@ -8,5 +8,3 @@ pub mod Pieces
 pub mod Fills
 pub mod Halls
 pub mod Samples
-pub mod Steps
-pub mod Settlings

@@ -5,9 +5,11 @@ ghost use Rattle.cards.specs.Tallies.{blank};
 ghost use Rattle.history.specs.Requests.{tally_of, refusals};
 ghost use Rattle.history.specs.Calls.{requests_of};
 
-use crate::call::{Call, obey};
+use crate::call::obey;
 use books::book::Book;
+use calls::call::Call;
 use cards::card::Card;
+use std::convert::AsSlice;
 
 // A card after a list of calls, and how many of them were refused.
 #[derive(Clone, Copy)]
@@ -17,14 +19,14 @@ pub struct Replayed {
 }
 
 // Makes a card and puts the calls to it, one by one. A refused call leaves the card's tally, and is counted.
-pub fn replay<B: Book>(book: &B, calls: &[Call<'_>]) -> Replayed
-    ensures tally { tally result.card ≡ tally_of (B.Book.entries book.now) (requests_of calls.now) }
-    ensures refused { result.refused ≡ refusals (B.Book.entries book.now) (blank 2000) (requests_of calls.now) }
+pub fn replay<B: Book, S: AsSlice<u8>>(book: &B, calls: &[Call<S>]) -> Replayed
+    ensures tally { tally result.card ≡ tally_of (B.Book.entries book.now) (requests_of S.AsSlice.items calls.now) }
+    ensures refused { result.refused ≡ refusals (B.Book.entries book.now) (blank 2000) (requests_of S.AsSlice.items calls.now) }
 {
     let mut card = Card::make();
     let mut refused = 0;
     for call in calls {
-        if !obey(&mut card, book, call) {
+        if obey(&mut card, book, call).is_err() {
             refused += 1;
         }
     }

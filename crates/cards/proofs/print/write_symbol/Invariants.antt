@@ -7,6 +7,6 @@ use Rattle.cards.proofs.print.write_symbol.Given as goal
 
 abbrev pub invariant-loop-row : goal.invariant-loop-row
 invariant-loop-row l =
-    (length l.symbol ≡ 100) × (length l.element ≡ 34)
+    (length l.symbol ≡ 100)
     × (l.open.bytes + length (joined_after l.open.pending (map piece (map held_in (drop l.row-index l.rows)))) ≤ 48)
     × Stands (map piece (map held_in (take l.row-index l.rows))) l.open l.symbol

@@ -1,5 +1,5 @@
 use Rattle.cards.proofs.Fillings.{Filling}
-use Rattle.cards.proofs.print.run_length.Given as goal
+use Rattle.cards.proofs.runs.run_length.Given as goal
 
 abbrev pub invariant-loop-i : goal.invariant-loop-i
 invariant-loop-i l = Filling l.rows l.i l.bytes l.separator
