@@ -1,47 +1,54 @@
 // Symbols written element by element, and symbols read.
-use crate::answer::{write_refusal, write_values};
+use crate::answer::write_values;
+use crate::case::{Case, Input};
 use crate::report::Report;
 use commands::show::show;
+use desk::undone::{Undone, refused};
 use std::alloc::Global;
 use std::io;
 use symbols::reader::decode;
 use symbols::writer::{add, begin, seal};
 
-// Elements that are added one after the other, and the values of their symbol, or the refusal.
-#[derive(Clone, Copy)]
-struct AddCase {
-    name: &'static str,
+// Elements that are added one after the other.
+struct Elements {
     elements: &'static [&'static [u8]],
-    stored: &'static [u8],
 }
 
-const ADDS: [AddCase; 4] = [
-    AddCase {
+const ADDS: [Case<Elements>; 4] = [
+    Case {
         name: "variant",
-        elements: &[b"2015"],
+        input: Elements {
+            elements: &[b"2015"],
+        },
         stored: b"105 102 20 15 86 106",
     },
-    AddCase {
+    Case {
         name: "best before and lot",
-        elements: &[b"15260930", b"10AB"],
+        input: Elements {
+            elements: &[b"15260930", b"10AB"],
+        },
         stored: b"105 102 15 26 9 30 10 100 33 34 80 106",
     },
-    AddCase {
+    Case {
         name: "add 48 bytes",
-        elements: &[
-            b"00376104250021234569",
-            b"0104841234123457",
-            b"10ABCDEFGHIJ",
-        ],
+        input: Elements {
+            elements: &[
+                b"00376104250021234569",
+                b"0104841234123457",
+                b"10ABCDEFGHIJ",
+            ],
+        },
         stored: b"105 102 0 37 61 4 25 0 21 23 45 69 1 4 84 12 34 12 34 57 10 100 33 34 35 36 37 38 39 40 41 42 62 106",
     },
-    AddCase {
+    Case {
         name: "add 49 bytes",
-        elements: &[
-            b"00376104250021234569",
-            b"0104841234123457",
-            b"10ABCDEFGHIJK",
-        ],
+        input: Elements {
+            elements: &[
+                b"00376104250021234569",
+                b"0104841234123457",
+                b"10ABCDEFGHIJK",
+            ],
+        },
         stored: b"refused 20 symbol 49",
     },
 ];
@@ -58,78 +65,51 @@ pub const TOO_LONG: &[u8] = &[
     35, 36, 37, 38, 39, 40, 41, 42, 43, 99, 106,
 ];
 
-// The values of a symbol, and its data, or the refusal.
-#[derive(Clone, Copy)]
-struct ReadCase {
-    name: &'static str,
+// The values of a symbol.
+struct Values {
     values: &'static [u8],
-    stored: &'static [u8],
 }
 
-const READS: [ReadCase; 2] = [
-    ReadCase {
+const READS: [Case<Values>; 2] = [
+    Case {
         name: "read 48 bytes",
-        values: LONGEST,
+        input: Values { values: LONGEST },
         stored: b"00376104250021234569010484123412345710ABCDEFGHIJ",
     },
-    ReadCase {
+    Case {
         name: "read 49 bytes",
-        values: TOO_LONG,
+        input: Values { values: TOO_LONG },
         stored: b"refused 20 symbol 32",
     },
 ];
 
-// Writes a symbol, and adds what came.
-fn written(heap: Global, case: &AddCase, came: &mut Vec<u8>) -> io::Result<()> {
-    let mut buffer = vec![in heap; 0; 100]?;
-    let mut open = match begin(buffer.as_mut_slice()) {
-        Ok(open) => open,
-        Err(fault) => return write_refusal(heap, &fault, came),
-    };
-    for element in case.elements {
-        open = match add(open, buffer.as_mut_slice(), element) {
-            Ok(open) => open,
-            Err(back) => {
-                let (_, fault) = back;
-                return write_refusal(heap, &fault, came);
-            }
-        };
-    }
-    match seal(open, buffer.as_mut_slice()) {
-        Ok(n) => {
-            buffer.truncate(n);
-            write_values(buffer.as_slice(), came)
+// The values of their symbol.
+impl Input for Elements {
+    fn run(&self, heap: Global, came: &mut Vec<u8>) -> Result<(), Undone> {
+        let mut buffer = vec![in heap; 0; 100].map_err(io::Error::from)?;
+        let mut open = begin(buffer.as_mut_slice()).map_err(refused)?;
+        for element in self.elements {
+            open = add(open, buffer.as_mut_slice(), element).map_err(|(_, fault)| refused(fault))?;
         }
-        Err(back) => {
-            let (_, fault) = back;
-            write_refusal(heap, &fault, came)
-        }
+        let n = seal(open, buffer.as_mut_slice()).map_err(|(_, fault)| refused(fault))?;
+        buffer.truncate(n);
+        Ok(write_values(buffer.as_slice(), came)?)
     }
 }
 
-// Reads a symbol, and adds what came.
-fn read(heap: Global, case: &ReadCase, came: &mut Vec<u8>) -> io::Result<()> {
-    let mut bytes = [0; 48];
-    match decode(case.values, &mut bytes) {
-        Ok(n) => {
-            show(&bytes[0..n.min(48)], came)?;
-            Ok(())
-        }
-        Err(fault) => write_refusal(heap, &fault, came),
+// Its data.
+impl Input for Values {
+    fn run(&self, _heap: Global, came: &mut Vec<u8>) -> Result<(), Undone> {
+        // Kept: an array and a number, since `decode` writes into memory that is lent to it.
+        let mut bytes = [0; 48];
+        let n = decode(self.values, &mut bytes).map_err(refused)?;
+        show(&bytes[0..n.min(48)], came).map_err(io::Error::from)?;
+        Ok(())
     }
 }
 
 // Adds the line of each symbol.
 pub fn run(heap: Global, report: &mut Report, out: &mut Vec<u8>) -> io::Result<()> {
-    for case in &ADDS {
-        let mut came = Vec::new(heap);
-        written(heap, case, &mut came)?;
-        report.line(case.name, came.as_slice(), case.stored, out)?;
-    }
-    for case in &READS {
-        let mut came = Vec::new(heap);
-        read(heap, case, &mut came)?;
-        report.line(case.name, came.as_slice(), case.stored, out)?;
-    }
-    Ok(())
+    report.all(heap, &ADDS, out)?;
+    report.all(heap, &READS, out)
 }

@@ -6,11 +6,12 @@ use std::io;
 use std::io::Write;
 
 mod answer;
-mod calls;
+mod case;
 mod fields;
 mod halls;
 mod labels;
 mod report;
+mod sequences;
 mod strings;
 
 fn main(rt: HostRuntime) -> io::Result<()> {
@@ -19,7 +20,7 @@ fn main(rt: HostRuntime) -> io::Result<()> {
     fields::run(rt.alloc(), &mut report, &mut text)?;
     strings::run(rt.alloc(), &mut report, &mut text)?;
     labels::run(rt.alloc(), &mut report, &mut text)?;
-    calls::run(rt.alloc(), &mut report, &mut text)?;
+    sequences::run(rt.alloc(), &mut report, &mut text)?;
     halls::run(rt.alloc(), &mut report, &mut text)?;
     report.total(&mut text)?;
     let mut output = rt.stdout();

@@ -1,4 +1,7 @@
 // The lines of the cases, and how many there are.
+use crate::case::{Case, Input};
+use desk::undone::Undone;
+use std::alloc::Global;
 use std::io;
 use std::io::Write;
 
@@ -34,19 +37,35 @@ impl Report {
         stored: &[u8],
         out: &mut Vec<u8>,
     ) -> io::Result<()> {
-        let (verdict, wrong) = if came == stored {
-            ("ok", 0)
-        } else {
-            ("WRONG", 1)
-        };
+        let verdict = if came == stored { "ok" } else { "WRONG" };
         self.cases = self.cases.saturating_add(1);
-        self.wrong = self.wrong.saturating_add(wrong);
+        self.wrong = self.wrong.saturating_add(u64::from(came != stored));
         out.write_all(name)?;
         out.write_all(b" | ")?;
         out.write_all(came)?;
         out.write_all(b" | ")?;
         out.write_all(stored)?;
         writeln!(out, " | {verdict}")
+    }
+
+    // Runs each case, and adds its line.
+    pub fn all<I: Input>(
+        &mut self,
+        heap: Global,
+        cases: &[Case<I>],
+        out: &mut Vec<u8>,
+    ) -> io::Result<()> {
+        for case in cases {
+            let mut came = Vec::new(heap);
+            match case.input.run(heap, &mut came) {
+                Ok(()) => {}
+                Err(Undone::Refused(refusal)) => write!(came, "{refusal}")?,
+                Err(Undone::Untried(complaint)) => write!(came, "{complaint}")?,
+                Err(Undone::Unwritten(error)) => return Err(error),
+            }
+            self.line(case.name, came.as_slice(), case.stored, out)?;
+        }
+        Ok(())
     }
 
     // Adds the last line: how many cases there were, and how many were wrong.

@@ -1,6 +1,12 @@
 -- An empty card that takes all symbols of another, one by one.
-use Rattle.std.proofs.Common.{◌≡◌, ℕ, zero, suc, ◌+◌, ◌-◌, ◌<◌, ◌≤◌, Bool, true, cond, eqb, T, ◌⊎◌, List, [], ◌∷◌, ◌++◌, length, get_or, is_some, Ok, Err, Result, sym, refl, ap, ◌∙◌, subst, inl, inr, ⊎_elim, arith}
+use Rattle.std.proofs.Common.{◌≡◌, ℕ, zero, suc, ◌+◌, ◌-◌, ◌<◌, ◌≤◌, Bool, true, false, cond, eqb, T, ◌⊎◌, List, [], ◌∷◌, ◌++◌, length, get_or, is_some, Some, None, Option, MatchOption, Ok, Err, Result, sym, refl, ap, ◌∙◌, subst, inl, inr, ⊎_elim, arith}
 use Rattle.std.specs.List.{range_with_len}
+use Rattle.std.specs.Bool.{MatchBool}
+use Rattle.std.specs.Iterator.Adapters.{chain_first, chain_second, chain_first_done, chain_second_done, chain_steps, rev_source, rev_steps}
+use Rattle.std.specs.Range.{range_steps, range_steps_back}
+use Rattle.std.specs.declared.iter.Chain.{Chain}
+use Rattle.std.specs.declared.iter.Rev.{Rev}
+use Rattle.std.specs.declared.ops.Range.{Range}
 use Rattle.std.proofs.lemmas.Bool.{and_parts, and_from, le-leb, eqb-true, eqb-false, cases_Bool}
 use Rattle.forms.specs.Bytes.{within}
 use Rattle.forms.specs.Years.{InSpan}
@@ -29,6 +35,18 @@ down_from (suc n) = n ∷ down_from n
 -- the numbers below n, from k on
 abbrev pub up_from : ℕ → ℕ → List ℕ
 up_from k n = range_with_len k (n - k)
+
+-- the numbers that are left of a way down from `end`, unless it is done, and then up from `start` to n
+abbrev pub ahead : Bool → ℕ → ℕ → ℕ → List ℕ
+ahead done end start n = cond done (up_from start n) (down_from end ++ up_from start n)
+
+-- a way down to 0 and then up to n, at some place, with the numbers ks ahead
+pub record Way (n : ℕ) (it : Chain (Rev (Range ℕ)) (Range ℕ)) (ks : List ℕ) : Type 0 where
+  pub bottom : chain_first_done it ≡ false → (rev_source (chain_first it)).start ≡ 0
+  pub low : chain_first_done it ≡ false → (rev_source (chain_first it)).end ≤ n
+  pub top : (chain_second it).end ≡ n
+  pub goes : chain_second_done it ≡ false
+  pub left : ks ≡ ahead (chain_first_done it) (rev_source (chain_first it)).end (chain_second it).start n
 
 -- the numbers of all symbols of t, from the last to the first and then from the first to the last
 abbrev both_ways : Tally → List ℕ
@@ -85,26 +103,10 @@ go_on es t u u' k ks ok is next h = (
   λ p e. (ap (λ w. accepted es w (takes t ks)) next ∙ (and_parts _ _ (h p e).0).1, ap (λ w. run es w (takes t ks)) next ∙ (h p e).1),
 )
 
--- a card of the tally u takes the symbol before the last `left`, and has u' then
-pub down : (es : List Entry) (t u u' : Tally) (left : ℕ) (ok : Bool) → 0 < left → left ≤ length (symbols t)
-    → Goes es t u (down_from left ++ up_from 0 (length (symbols t))) → Takes es (symbols t) (left - 1) u u' ok
-    → ((p : List Request) → t ≡ tally_of es p → ok ≡ true) × Goes es t u' (down_from (left - 1) ++ up_from 0 (length (symbols t)))
-down es t u u' left ok some few h takes =
-    let rest = up_from 0 (length (symbols t)) in
-    let lt : left - 1 < length (symbols t) = omega (arith, some, few) in
-    let on : left ≡ suc (left - 1) = omega (arith, some) in
-    let next : Goes es t u ((left - 1) ∷ (down_from (left - 1) ++ rest)) = subst (λ (n : ℕ). Goes es t u (down_from n ++ rest)) on h in
-    go_on es t u u' (left - 1) (down_from (left - 1) ++ rest) ok (takes lt).0 (takes lt).1 next
-
 -- a card of the tally u takes the symbol of the number k, and has u' then
-pub up : (es : List Entry) (t u u' : Tally) (k : ℕ) (ok : Bool) → k < length (symbols t)
-    → Goes es t u (up_from k (length (symbols t))) → Takes es (symbols t) k u u' ok
-    → ((p : List Request) → t ≡ tally_of es p → ok ≡ true) × Goes es t u' (up_from (k + 1) (length (symbols t)))
-up es t u u' k ok lt h takes =
-    let n = length (symbols t) in
-    let on : n - k ≡ suc (n - (k + 1)) = omega (arith, lt) in
-    let next : Goes es t u (k ∷ up_from (k + 1) n) = subst (λ (m : ℕ). Goes es t u (range_with_len k m)) on h in
-    go_on es t u u' k (up_from (k + 1) n) ok (takes lt).0 (takes lt).1 next
+pub takes_one : (es : List Entry) (t u u' : Tally) (k : ℕ) (ks : List ℕ) (ok : Bool) → k < length (symbols t) → Goes es t u (k ∷ ks) → Takes es (symbols t) k u u' ok
+    → ((p : List Request) → t ≡ tally_of es p → ok ≡ true) × Goes es t u' ks
+takes_one es t u u' k ks ok lt h takes = go_on es t u u' k ks ok (takes lt).0 (takes lt).1 h
 
 -- BEGINNING AND END
 
@@ -154,12 +156,83 @@ module _ (es : List Entry) (all : T (all_lawful es)) (free : T (prefix_free es))
       )
 
   -- no symbol is left: the string is the one of t
-  pub finish : (u : Tally) (k : ℕ) (string again : List ℕ) → length (symbols t) ≤ k → Goes es t u (up_from k (length (symbols t))) → again ≡ canonical u
+  pub finish : (u : Tally) (string again : List ℕ) → Goes es t u [] → again ≡ canonical u
       → (p : List Request) → t ≡ tally_of es p → string ≡ canonical t → again ≡ string
-  finish u k string again end h is' p e s =
+  finish u string again h is' p e s =
       let taken : tally_of es (turning y ++ takes t (both_ways t)) ≡ run es (blank t.year) (takes t (both_ways t)) = ap (λ w. run es w (takes t (both_ways t))) empty in
-      let none : length (symbols t) - k ≡ 0 = omega (arith, end) in
-      let u-is : u ≡ run es (blank t.year) (takes t (both_ways t)) = sym (ap (λ n. run es u (takes t (range_with_len k n))) none) ∙ (h p e).1 in
+      let u-is : u ≡ run es (blank t.year) (takes t (both_ways t)) = (h p e).1 in
       let years : (tally_of es (turning y ++ takes t (both_ways t))).year ≡ (tally_of es p).year =
       ap (λ w. w.year) taken ∙ years_stay es t (blank t.year) (both_ways t) ∙ ap (λ w. w.year) e in
       is' ∙ ap canonical (u-is ∙ sym taken) ∙ ((law_of_the_halls es all free).0 (turning y ++ takes t (both_ways t)) p years).1 (law p e).1 ∙ ap canonical (sym e) ∙ sym s
+
+up_more : (k n : ℕ) → k < n → up_from k n ≡ k ∷ up_from (k + 1) n
+up_more k n l = let on : n - k ≡ suc (n - (k + 1)) = omega (arith, l) in ap (range_with_len k) on
+
+down_more : (m k : ℕ) → m ≡ k + 1 → down_from m ≡ k ∷ down_from k
+down_more m k e = let on : m ≡ suc k = omega (arith, e) in ap down_from on
+
+module _ (n : ℕ) (f g s t : Range ℕ) (two : Bool) where
+  -- the way up answers r
+  abbrev Second : Bool → Option ℕ → Type 0
+  Second one r = MatchBool two (r ≡ None) (range_steps (λ (x y : ℕ). y - x) (λ (x y : ℕ). y ≡ x + 1) s r t) × (one ≡ true)
+
+  -- the chain answers r
+  abbrev Answers : Bool → Bool → Option ℕ → Type 0
+  Answers done one r =
+      MatchBool done (Second one r)
+      ((o : Option ℕ) × range_steps_back (λ (x y : ℕ). y - x) (λ (x y : ℕ). y ≡ x + 1) f o g
+      × MatchOption o (Second one r) (λ x. (r ≡ Some x) × (t ≡ s) × (one ≡ false)))
+
+  climbs : (k : ℕ) (one : Bool) → two ≡ false → s.end ≡ n → Second one (Some k) → (k < n) × (up_from s.start n ≡ k ∷ ahead one g.end t.start n) × (t.end ≡ n) × (one ≡ true)
+  climbs k one off e h =
+      let a : range_steps (λ (x y : ℕ). y - x) (λ (x y : ℕ). y ≡ x + 1) s (Some k) t = subst (λ b. MatchBool b (Some k ≡ None) (range_steps (λ (x y : ℕ). y - x) (λ (x y : ℕ). y ≡ x + 1) s (Some k) t)) off h.0 in
+      let within : s.start < n = omega (arith, a.1.0, e) in (
+        omega (arith, within, a.1.1),
+        up_more s.start n within ∙ ap (λ j. j ∷ up_from (s.start + 1) n) (sym a.1.1) ∙ ap (λ j. k ∷ up_from j n) (sym a.1.2) ∙ ap (λ b. k ∷ ahead b g.end t.start n) (sym h.1),
+        a.0 ∙ e,
+        h.1,
+      )
+
+  further : (k : ℕ) (done one : Bool) → (done ≡ false → f.start ≡ 0) → (done ≡ false → f.end ≤ n) → two ≡ false → s.end ≡ n → Answers done one (Some k)
+      → (k < n) × (ahead done f.end s.start n ≡ k ∷ ahead one g.end t.start n) × (t.end ≡ n) × (one ≡ false → g.start ≡ 0) × (one ≡ false → g.end ≤ n)
+  further k true one z l off e h =
+      let c = climbs k one off e h in (c.0, c.1, c.2, λ x. absurd (cc), λ x. absurd (cc))
+  further k false one z l off e (None, a, h) =
+      let c = climbs k one off e h in
+      let none : f.end ≡ 0 = omega (arith, a.1.0, z refl) in
+      (c.0, ap (λ m. down_from m ++ up_from s.start n) none ∙ c.1, c.2, λ x. absurd (cc), λ x. absurd (cc))
+  further k false one z l off e (Some x, a, h) =
+      let is : k ≡ x = cc in
+      let here : f.end ≡ k + 1 = a.1.2 ∙ ap (λ m. m + 1) (sym a.1.1 ∙ sym is) in
+      let next : g.end ≡ k = sym a.1.1 ∙ sym is in
+      let low : f.end ≤ n = l refl in (
+        omega (arith, here, low),
+        ap (λ ks. ks ++ up_from s.start n) (down_more f.end k here) ∙ ap (λ m. k ∷ (down_from m ++ up_from s.start n)) (sym next) ∙ ap (λ r. k ∷ (down_from g.end ++ up_from r.start n)) (sym h.1) ∙ ap (λ b. k ∷ ahead b g.end t.start n) (sym h.2),
+        ap (λ r. r.end) h.1 ∙ e,
+        λ _. a.0 ∙ z refl,
+        λ _. omega (arith, here, low, next),
+      )
+
+  ends : (done one : Bool) → (done ≡ false → f.start ≡ 0) → two ≡ false → s.end ≡ n → Answers done one None → ahead done f.end s.start n ≡ []
+  ends true one z off e h =
+      let a : range_steps (λ (x y : ℕ). y - x) (λ (x y : ℕ). y ≡ x + 1) s None t = subst (λ b. MatchBool b (◌≡◌ {A = Option ℕ} None None) (range_steps (λ (x y : ℕ). y - x) (λ (x y : ℕ). y ≡ x + 1) s None t)) off h.0 in
+      let none : n - s.start ≡ 0 = omega (arith, a.1.0, e) in
+      ap (range_with_len s.start) none
+  ends false one z off e (None, b, h) =
+      let a : range_steps (λ (x y : ℕ). y - x) (λ (x y : ℕ). y ≡ x + 1) s None t = subst (λ b. MatchBool b (◌≡◌ {A = Option ℕ} None None) (range_steps (λ (x y : ℕ). y - x) (λ (x y : ℕ). y ≡ x + 1) s None t)) off h.0 in
+      let none : n - s.start ≡ 0 = omega (arith, a.1.0, e) in
+      let down : f.end ≡ 0 = omega (arith, b.1.0, z refl) in
+      ap (λ m. down_from m ++ up_from s.start n) down ∙ ap (range_with_len s.start) none
+  ends false one z off e (Some x, a, h) = absurd (cc)
+
+-- a step along the way gives the first number that is ahead
+abbrev pub Steps : Chain (Rev (Range ℕ)) (Range ℕ) → Option ℕ → Chain (Rev (Range ℕ)) (Range ℕ) → Type 0
+Steps s r t = chain_steps (rev_steps (range_steps_back (λ (x y : ℕ). y - x) (λ (x y : ℕ). y ≡ x + 1))) (range_steps (λ (x y : ℕ). y - x) (λ (x y : ℕ). y ≡ x + 1)) s r t
+
+pub on : (n : ℕ) (s t : Chain (Rev (Range ℕ)) (Range ℕ)) (k : ℕ) (ks : List ℕ) → Way n s ks → Steps s (Some k) t → (k < n) × ((rest : List ℕ) × (ks ≡ k ∷ rest) × Way n t rest)
+on n s t k ks w h =
+    let r = further n (rev_source (chain_first s)) (rev_source (chain_first t)) (chain_second s) (chain_second t) (chain_second_done s) k (chain_first_done s) (chain_first_done t) w.bottom w.low w.goes w.top h.1 in
+    (r.0, (ahead (chain_first_done t) (rev_source (chain_first t)).end (chain_second t).start n, w.left ∙ r.1, record { bottom = r.3; low = r.4; top = r.2; goes = h.0 ∙ w.goes; left = refl }))
+
+pub over : (n : ℕ) (s t : Chain (Rev (Range ℕ)) (Range ℕ)) (ks : List ℕ) → Way n s ks → Steps s None t → ks ≡ []
+over n s t ks w h = w.left ∙ ends n (rev_source (chain_first s)) (rev_source (chain_first t)) (chain_second s) (chain_second t) (chain_second_done s) (chain_first_done s) (chain_first_done t) w.bottom w.goes w.top h.1

@@ -1,3 +1,3 @@
-pub mod Asked
+pub mod Filings
 pub mod Relabels
 pub mod Verdicts

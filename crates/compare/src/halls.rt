@@ -1,11 +1,18 @@
 // What is known of two halls between two lines, and what each line does to it.
+ghost use Rattle.std.specs.Prelude.{option_map};
+ghost use Rattle.commands.specs.HallLines.{hall_asked, hall_line_meant};
+ghost use Rattle.commands.specs.Judgements.{Says};
+
 use crate::report::write_report;
-use books::gs1::Gs1Book;
+use calls::call::Call;
 use commands::complaint::Complaint;
-use commands::hall::{Hall, HallLine, parse_hall};
-use commands::line::{BookChoice, CardCall};
-use desk::book::{BookInUse, HallWords};
-use desk::refusal::write_refusal;
+use commands::error::LineError;
+use commands::hall::{Hall, HallCommand, parse_hall};
+use commands::line::BookChoice;
+use desk::book::HallWords;
+use desk::in_use::BookInUse;
+use desk::program::Program;
+use forms::refusal::Refusal;
 use std::alloc::Global;
 use std::io;
 use std::io::Write;
@@ -14,8 +21,8 @@ use std::io::Write;
 #[derive(Drop)]
 pub struct Halls {
     book: BookInUse,
-    first: Vec<CardCall>,
-    second: Vec<CardCall>,
+    first: Vec<Call<Vec<u8>>>,
+    second: Vec<Call<Vec<u8>>>,
 }
 
 impl Halls {
@@ -28,18 +35,8 @@ impl Halls {
         }
     }
 
-    // Keeps what a line says, and adds what is answered to it: nothing to a call or to a book that is used from here on.
-    pub fn read(&mut self, heap: Global, line: &[u8], out: &mut Vec<u8>) -> io::Result<()> {
-        match parse_hall(heap, line)? {
-            HallLine::Silent => Ok(()),
-            HallLine::Complaint(complaint) => writeln!(out, "{complaint}"),
-            HallLine::Call { hall, call } => self.keep(hall, call),
-            HallLine::Book(choice) => self.choose(heap, choice, out),
-        }
-    }
-
     // Keeps a call of that hall, behind those that it has.
-    fn keep(&mut self, hall: Hall, call: CardCall) -> io::Result<()> {
+    fn keep(&mut self, hall: Hall, call: Call<Vec<u8>>) -> io::Result<()> {
         match hall {
             Hall::First => self.first.push(call)?,
             Hall::Second => self.second.push(call)?,
@@ -48,7 +45,7 @@ impl Halls {
     }
 
     // Uses a book, if there was no call yet; where it is no book, adds that, and keeps the one in use.
-    fn choose(&mut self, heap: Global, choice: BookChoice, out: &mut Vec<u8>) -> io::Result<()> {
+    fn choose(&mut self, choice: BookChoice, out: &mut Vec<u8>) -> io::Result<()> {
         if !self.first.is_empty() || !self.second.is_empty() {
             let complaint = Complaint::TooLate;
             return writeln!(out, "{complaint}");
@@ -58,21 +55,40 @@ impl Halls {
             BookChoice::Hall(words) => match HallWords::new(words) {
                 Ok(hall) => self.book = BookInUse::Hall(hall),
                 Err(fault) => {
-                    write_refusal(heap, &fault, out)?;
-                    writeln!(out)?;
+                    let refusal = Refusal::of(&fault);
+                    writeln!(out, "{refusal}")?;
                 }
             },
         }
         Ok(())
     }
+}
+
+impl Program for Halls {
+    type Command = HallCommand;
+
+    ghost reads = { λ line r. Says (option_map hall_asked) r (hall_line_meant line) };
+
+    fn read(heap: Global, line: &[u8]) -> Result<Option<HallCommand>, LineError> {
+        parse_hall(heap, line)
+    }
+
+    // Keeps what a line says. Nothing is answered to a call, or to a book that is used from here on.
+    fn obey(&mut self, _heap: Global, command: HallCommand, out: &mut Vec<u8>) -> io::Result<()> {
+        match command {
+            HallCommand::Call { hall, call } => self.keep(hall, call),
+            HallCommand::Book(choice) => self.choose(choice, out),
+        }
+    }
 
     // Adds what became of the two cards.
-    pub fn report(&self, heap: Global, out: &mut Vec<u8>) -> io::Result<()> {
-        let first = self.first.as_slice();
-        let second = self.second.as_slice();
-        match &self.book {
-            BookInUse::Gs1 => write_report(heap, &Gs1Book, first, second, out),
-            BookInUse::Hall(words) => write_report(heap, &words.book(), first, second, out),
-        }
+    fn finish(&self, heap: Global, out: &mut Vec<u8>) -> io::Result<()> {
+        write_report(
+            heap,
+            &self.book,
+            self.first.as_slice(),
+            self.second.as_slice(),
+            out,
+        )
     }
 }

@@ -40,17 +40,8 @@ pub fn relabels<B: Book>(
         return Ok(false);
     }
     let count = card.symbols();
-    let mut left = count;
-    while left > 0 {
-        left -= 1;
-        let accepted = takes(heap, book, card, left, &mut fresh)?;
-        if !accepted {
-            return Ok(false);
-        }
-    }
-    for k in 0..count {
-        let accepted = takes(heap, book, card, k, &mut fresh)?;
-        if !accepted {
+    for k in (0..count).rev().chain(0..count) {
+        if !takes(heap, book, card, k, &mut fresh)? {
             return Ok(false);
         }
     }

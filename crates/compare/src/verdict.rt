@@ -1,6 +1,8 @@
 // What comes of two cards beside each other.
-ghost use Rattle.std.specs.Prelude.{◌≡◌};
+ghost use Rattle.std.specs.Prelude.{Some};
 ghost use Rattle.compare.specs.Verdicts.{Judges, verdict_text};
+
+use std::fmt;
 
 // What comes of two cards beside each other.
 #[derive(Clone, Copy)]
@@ -26,15 +28,17 @@ impl Verdict {
             Verdict::Different
         }
     }
+}
 
-    // How it is told.
-    pub fn text(self) -> &'static str
-        ensures { result.now ≡ verdict_text self }
-    {
-        match self {
+// Writes how it is told.
+impl fmt::Display for Verdict {
+    ghost output = { λ verdict. Some (verdict_text verdict) };
+
+    fn fmt<W: fmt::Write>(&self, f: &mut fmt::Formatter<W>) -> fmt::Result {
+        f.write_str(match self {
             Verdict::Same => "same",
             Verdict::Different => "different",
             Verdict::YearsDiffer => "years differ",
-        }
+        })
     }
 }

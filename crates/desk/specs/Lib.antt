@@ -1,3 +1,5 @@
+pub mod Answers
 pub mod Ends
-pub mod Refusals
+pub mod InUse
+pub mod Values
 pub mod Writings

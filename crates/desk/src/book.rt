@@ -1,4 +1,4 @@
-// The book that a program uses.
+// Words that are a hall's book.
 ghost use Rattle.std.specs.Prelude.{◌≡◌, T, Some, MatchResult};
 ghost use Rattle.books.specs.Loads.{first_fault};
 ghost use Rattle.books.specs.Words.{is_book};
@@ -27,18 +27,7 @@ impl HallWords {
         ensures { result.words.now ≡ self.now.words.items }
     {
         let mut book = HallBook::empty();
-        match book.load(self.words.as_slice()) {
-            Ok(()) => book,
-            Err(_) => unreachable(),
-        }
+        book.load(self.words.as_slice()).unwrap();
+        book
     }
-}
-
-// The book in use.
-#[derive(Drop)]
-pub enum BookInUse {
-    // the GS1 book
-    Gs1,
-    // a hall's book
-    Hall(HallWords),
 }

@@ -1,43 +1,47 @@
 // What a card writes: its canonical string and its symbols.
-ghost use Rattle.std.specs.Prelude.{◌≡◌, IfOk};
+ghost use Rattle.std.specs.Prelude.{◌≡◌, IfOk, length};
+ghost use Rattle.std.specs.Fn.{FnOnceReturnsAtMut};
 ghost use Rattle.cards.specs.Cards.{tally};
 ghost use Rattle.cards.specs.Strings.{canonical, symbols};
-ghost use Rattle.desk.specs.Writings.{StringIn, SymbolIn, IsSymbol};
+ghost use Rattle.desk.specs.Writings.{Written, StringIn, SymbolIn, IsSymbol};
 
 use cards::card::Card;
 use cards::fault::PrintFault;
+use commands::error::Failure;
 use std::alloc::{AllocError, Global};
 use symbols::fault::WriterFault;
 
-// The canonical string of a card, if a buffer of `room` bytes has room for it.
-pub fn string_in(
+// What is written over the first bytes of a buffer of `room` bytes.
+fn written<E, F: FnOnce(&mut [u8]) -> Result<usize, E>>(
     heap: Global,
-    card: &Card,
     room: usize,
-) -> Result<Result<Vec<u8>, WriterFault>, AllocError>
-    ensures { IfOk result (λ got. StringIn (canonical (tally card.now)) room got) }
+    write: F,
+) -> Result<Vec<u8>, Failure<E>>
+    requires { F.IsAlwaysCallable write }
+    ensures { Written (FnOnceReturnsAtMut F.FnOnce write) room result }
 {
-    let mut string = vec![in heap; 0; room]?;
-    match card.canonical(string.as_mut_slice()) {
-        Ok(n) => {
-            string.truncate(n);
-            Ok(Ok(string))
-        }
-        Err(fault) => Ok(Err(fault)),
-    }
+    let mut buffer = vec![in heap; 0; room]?;
+    let n = write(buffer.as_mut_slice()).map_err(Failure::Refused)?;
+    buffer.truncate(n);
+    Ok(buffer)
+}
+
+// The canonical string of a card, if a buffer of `room` bytes has room for it.
+pub fn string_in(heap: Global, card: &Card, room: usize) -> Result<Vec<u8>, Failure<WriterFault>>
+    ensures { StringIn (canonical (tally card.now)) room result }
+{
+    written(heap, room, |buffer| card.canonical(buffer))
 }
 
 // The canonical string of a card.
 pub fn string_of(heap: Global, card: &Card) -> Result<Vec<u8>, AllocError>
     ensures { IfOk result (λ string. string.items ≡ canonical (tally card.now)) }
 {
-    let room = match card.canonical(&mut []) {
-        Ok(n) => n,
-        Err(fault) => fault.needed,
-    };
-    match string_in(heap, card, room)? {
+    let room = card.canonical(&mut []).unwrap_or_else(|fault| fault.needed);
+    match string_in(heap, card, room) {
         Ok(string) => Ok(string),
-        Err(_) => unreachable(),
+        Err(Failure::Memory(lack)) => Err(lack),
+        Err(Failure::Refused(_)) => unreachable(),
     }
 }
 
@@ -47,20 +51,14 @@ pub fn symbol_in(
     card: &Card,
     k: usize,
     room: usize,
-) -> Result<Result<Vec<u8>, PrintFault>, AllocError>
-    ensures { IfOk result (λ got. SymbolIn k (symbols (tally card.now)) room got) }
+) -> Result<Vec<u8>, Failure<PrintFault>>
+    ensures { SymbolIn k (symbols (tally card.now)) room result }
 {
-    let mut values = vec![in heap; 0; room]?;
-    match card.print(k, values.as_mut_slice()) {
-        Ok(n) => {
-            values.truncate(n);
-            Ok(Ok(values))
-        }
-        Err(fault) => Ok(Err(fault)),
-    }
+    written(heap, room, |buffer| card.print(k, buffer))
 }
 
 // The values of a card's symbol of the number `k`, from 0 on, if there is one.
+// Kept: apart from `string_of`, since only a symbol can be missing; one function over both would be no plainer.
 pub fn symbol_of(heap: Global, card: &Card, k: usize) -> Result<Option<Vec<u8>>, AllocError>
     ensures { IfOk result (λ got. IsSymbol k (symbols (tally card.now)) got) }
 {
@@ -69,8 +67,9 @@ pub fn symbol_of(heap: Global, card: &Card, k: usize) -> Result<Option<Vec<u8>>,
         Err(PrintFault::Short(fault)) => fault.needed,
         Err(PrintFault::NoSymbol { .. }) => return Ok(None),
     };
-    match symbol_in(heap, card, k, room)? {
+    match symbol_in(heap, card, k, room) {
         Ok(values) => Ok(Some(values)),
-        Err(_) => unreachable(),
+        Err(Failure::Memory(lack)) => Err(lack),
+        Err(Failure::Refused(_)) => unreachable(),
     }
 }

@@ -1,22 +1,15 @@
 -- A buffer that was lent as a whole and comes back.
-use Rattle.std.proofs.Common.{◌≡◌, ℕ, ◌+◌, ◌≤◌, true, false, ltb, List, [], ◌++◌, length, take, drop, Ok, sym, ap, ◌∙◌, subst, ⊎_elim, arith}
+use Rattle.std.proofs.Common.{◌≡◌, ℕ, ◌+◌, ◌≤◌, true, false, ltb, List, ◌++◌, length, take, drop, Ok, sym, ap, ◌∙◌, subst, ⊎_elim, arith}
 use Rattle.std.proofs.lemmas.List.{take_at, length-take-le}
 use Rattle.std.proofs.lemmas.Bool.{cases_Bool, ltb-false}
 use Rattle.symbols.specs.Encoding.{joined}
 use Rattle.symbols.specs.Reading.{decoded}
-use Rattle.symbols.specs.Writing.{Stage, Stands, Begun, Added, Sealed, stage, beginning, sealing}
+use Rattle.symbols.specs.Writing.{Stage, Stands, Added, Sealed, stage, sealing}
 use Rattle.symbols.specs.declared.state.Open.{Open}
 
 -- what stands in it then
 pub come_back : (n : ℕ) (after items : List ℕ) → length after ≡ n → take n (after ++ drop (length after) items) ≡ after
 come_back n after items l = take_at after (drop (length after) items) n l
-
--- the symbol that is begun, over a buffer of `room` bytes
-pub begun : (o : Open) (room n : ℕ) (before after items : List ℕ) → length before ≡ room → length after ≡ n → n ≡ room → Begun o before after
-    → (beginning room ≡ Ok (stage o)) × (length (take n (after ++ drop (length after) items)) ≡ room) × Stands [] o (take n (after ++ drop (length after) items))
-begun o room n before after items e l is b =
-    let back = come_back n after items l in
-    (ap beginning (sym e) ∙ b.is, ap length back ∙ l ∙ is, subst (Stands [] o) (sym back) b.stands)
 
 pub added : (was o : Open) (e : List ℕ) (n : ℕ) (held before after items : List ℕ) → before ≡ held → length after ≡ n → Added was o e before after
     → Added was o e held (take n (after ++ drop (length after) items))

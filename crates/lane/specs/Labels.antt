@@ -1,6 +1,8 @@
 -- What the calls do to an open symbol and the buffer that it stands in.
-use Rattle.std.specs.Prelude.{◌≡◌, ℕ, List, [], length, Ok, Err, vec_items, Result, Vec}
+use Rattle.std.specs.Prelude.{◌≡◌, ⊤, ℕ, List, [], length, Ok, Err, vec_items, Result, Vec}
 use Rattle.std.specs.declared.alloc.Global.{Global}
+use Rattle.commands.specs.declared.error.Failure.{Failure}
+use Rattle.commands.specs.declared.error.Failure.TheVariants.{Refused, Memory}
 use Rattle.symbols.specs.Encoding.{joined}
 use Rattle.symbols.specs.Reading.{decoded}
 use Rattle.symbols.specs.Writing.{Stands, Added, stage, beginning, adding, sealing}
@@ -13,9 +15,10 @@ abbrev pub held : OpenSymbol → List ℕ
 held o = vec_items o.buffer
 
 -- begin, over a buffer of `room` bytes
-abbrev pub Begins : Result OpenSymbol WriterFault → ℕ → Type 0
+abbrev pub Begins : Result OpenSymbol (Failure WriterFault) → ℕ → Type 0
 Begins (Ok o) room = (beginning room ≡ Ok (stage o.state)) × (length (held o) ≡ room) × Stands [] o.state (held o)
-Begins (Err f) room = beginning room ≡ Err f
+Begins (Err (Refused f)) room = beginning room ≡ Err f
+Begins (Err (Memory e)) room = ⊤
 
 -- add; refused, it gives back what it was given
 abbrev pub Adds : Result OpenSymbol (OpenSymbol × AddFault) → OpenSymbol → List ℕ → Type 0

@@ -1,8 +1,8 @@
 // A symbol that is written for a label, and the buffer that it stands in.
-ghost use Rattle.std.specs.Prelude.{IfOk};
 ghost use Rattle.lane.specs.Labels.{Begins, Adds, Seals};
 
-use std::alloc::{AllocError, Global};
+use commands::error::Failure;
+use std::alloc::Global;
 use symbols::fault::{AddFault, WriterFault};
 use symbols::state::Open;
 use symbols::writer::{add, begin, seal};
@@ -16,14 +16,12 @@ pub struct OpenSymbol {
 
 impl OpenSymbol {
     // Begins a symbol over a buffer of `room` bytes.
-    pub fn begin(heap: Global, room: usize) -> Result<Result<OpenSymbol, WriterFault>, AllocError>
-        ensures { IfOk result (λ got. Begins got room) }
+    pub fn begin(heap: Global, room: usize) -> Result<OpenSymbol, Failure<WriterFault>>
+        ensures { Begins result room }
     {
         let mut buffer = vec![in heap; 0; room]?;
-        match begin(buffer.as_mut_slice()) {
-            Ok(state) => Ok(Ok(OpenSymbol { state, buffer })),
-            Err(fault) => Ok(Err(fault)),
-        }
+        let state = begin(buffer.as_mut_slice()).map_err(Failure::Refused)?;
+        Ok(OpenSymbol { state, buffer })
     }
 
     // Adds an element, or gives the symbol back as it was.
@@ -31,12 +29,10 @@ impl OpenSymbol {
         ensures { Adds result self element.now }
     {
         let OpenSymbol { state, mut buffer } = self;
+        // Kept: a match, since the buffer goes back with the symbol either way.
         match add(state, buffer.as_mut_slice(), element) {
             Ok(state) => Ok(OpenSymbol { state, buffer }),
-            Err(back) => {
-                let (state, fault) = back;
-                Err((OpenSymbol { state, buffer }, fault))
-            }
+            Err((state, fault)) => Err((OpenSymbol { state, buffer }, fault)),
         }
     }
 
@@ -45,15 +41,13 @@ impl OpenSymbol {
         ensures { Seals result self }
     {
         let OpenSymbol { state, mut buffer } = self;
+        // Kept: a match, since the buffer goes back with the symbol, or is what is answered.
         match seal(state, buffer.as_mut_slice()) {
             Ok(n) => {
                 buffer.truncate(n);
                 Ok(buffer)
             }
-            Err(back) => {
-                let (state, fault) = back;
-                Err((OpenSymbol { state, buffer }, fault))
-            }
+            Err((state, fault)) => Err((OpenSymbol { state, buffer }, fault)),
         }
     }
 }

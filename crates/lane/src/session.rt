@@ -1,33 +1,32 @@
 // What a lane holds between two lines, and what each line does to it.
-use crate::answer::{write_element, write_reading, write_refusal, write_value, write_values};
-use crate::book::{BookInUse, HallWords};
+ghost use Rattle.std.specs.Prelude.{option_map};
+ghost use Rattle.commands.specs.Judgements.{Says};
+ghost use Rattle.commands.specs.Lines.{command_asked};
+ghost use Rattle.commands.specs.Meanings.{meant};
+
+use crate::answer::{write_element, write_reading, write_value, write_values};
 use crate::label::OpenSymbol;
 use books::book::Book;
 use books::gs1::Gs1Book;
+use calls::call::Call;
 use cards::card::Card;
 use commands::complaint::Complaint;
-use commands::line::{Command, Line};
+use commands::error::LineError;
+use commands::line::{BookChoice, Command};
 use commands::parse::parse;
-use forms::fault::Fault;
+use desk::book::HallWords;
+use desk::in_use::BookInUse;
+use desk::program::Program;
+use desk::undone::{Undone, refused};
+use forms::field::Field;
 use forms::judge::judge;
 use forms::kind::FormKind;
-use forms::year::Year;
+use history::call::obey;
 use scans::element::next_element;
 use scans::read::count_elements;
 use std::alloc::Global;
 use std::io;
 use std::io::Write;
-
-// What became of a command.
-#[derive(Clone, Copy)]
-enum Outcome {
-    // it was answered
-    Done,
-    // it was refused
-    Refused,
-    // it could not be tried, and counts as no command
-    Untried,
-}
 
 // A lane: its card, the book that it uses, its open symbol, and how many commands it has answered and refused.
 #[derive(Drop)]
@@ -37,54 +36,6 @@ pub struct Session {
     symbol: Option<OpenSymbol>,
     commands: u64,
     refused: u64,
-}
-
-// Adds the line `ok`.
-fn accept(out: &mut Vec<u8>) -> io::Result<Outcome> {
-    writeln!(out, "ok")?;
-    Ok(Outcome::Done)
-}
-
-// Adds the line `ok` with a number.
-fn tell(n: usize, out: &mut Vec<u8>) -> io::Result<Outcome> {
-    writeln!(out, "ok {n}")?;
-    Ok(Outcome::Done)
-}
-
-// Adds a refusal.
-fn refuse<F: Fault>(fault: &F, out: &mut Vec<u8>) -> io::Result<Outcome> {
-    write_refusal(fault, out)?;
-    Ok(Outcome::Refused)
-}
-
-// Adds that there is no open symbol.
-fn lacks_symbol(out: &mut Vec<u8>) -> io::Result<Outcome> {
-    let complaint = Complaint::NoOpenSymbol;
-    writeln!(out, "{complaint}")?;
-    Ok(Outcome::Untried)
-}
-
-// Adds the elements of a scan, which are judged under the book and in the year.
-fn read<B: Book>(book: &B, year: Year, scan: &[u8], out: &mut Vec<u8>) -> io::Result<Outcome> {
-    let n = match count_elements(book, year, scan) {
-        Ok(n) => n,
-        Err(fault) => return refuse(&fault, out),
-    };
-    writeln!(out, "ok {n}")?;
-    let mut at = 3;
-    for _ in 0..n {
-        let mut writing = [0; 30];
-        let Ok(found) = next_element(book, year, scan, at, &mut writing) else {
-            break;
-        };
-        let Some(element) = found else {
-            break;
-        };
-        write!(out, " ")?;
-        write_element(&element.entry.ident, &element.reading, &writing, out)?;
-        at = element.next;
-    }
-    Ok(Outcome::Done)
 }
 
 impl Session {
@@ -99,184 +50,159 @@ impl Session {
         }
     }
 
-    // Adds what is answered to a line.
-    pub fn answer(&mut self, heap: Global, line: &[u8], out: &mut Vec<u8>) -> io::Result<()> {
-        match parse(heap, line)? {
-            Line::Silent => Ok(()),
-            Line::Complaint(complaint) => writeln!(out, "{complaint}"),
-            Line::Command(command) => {
-                let outcome = self.obey(heap, command, out)?;
-                self.count(outcome);
-                Ok(())
-            }
-        }
-    }
-
-    // Counts a command by what became of it.
-    fn count(&mut self, outcome: Outcome) {
-        let (commands, refused) = match outcome {
-            Outcome::Done => (1, 0),
-            Outcome::Refused => (1, 1),
-            Outcome::Untried => (0, 0),
-        };
-        self.commands = self.commands.saturating_add(commands);
-        self.refused = self.refused.saturating_add(refused);
-    }
-
-    // Adds what is answered to a command.
-    fn obey(&mut self, heap: Global, command: Command, out: &mut Vec<u8>) -> io::Result<Outcome> {
+    // Does what a command asks for, and adds what is answered.
+    fn carry_out(
+        &mut self,
+        heap: Global,
+        command: Command,
+        out: &mut Vec<u8>,
+    ) -> Result<(), Undone> {
         match command {
-            Command::Turn(number) => match self.card.turn(number) {
-                Ok(()) => accept(out),
-                Err(fault) => refuse(&fault, out),
-            },
-            Command::Scan(bytes) => self.scan(bytes.as_slice(), out),
-            Command::Take(values) => self.take(values.as_slice(), out),
-            Command::Strike(ident) => match self.card.strike(ident.as_slice()) {
-                Ok(()) => accept(out),
-                Err(fault) => refuse(&fault, out),
-            },
-            Command::Wipe => {
-                self.card.wipe();
-                accept(out)
-            }
-            Command::Look(ident) => self.look(ident.as_slice(), out),
+            Command::Call(call) => self.call(&call, out),
+            Command::Look(ident) => Ok(self.look(ident.as_slice(), out)?),
             Command::Field { kind, bytes } => self.field(kind, bytes.as_slice(), out),
-            Command::Read(bytes) => self.read(bytes.as_slice(), out),
-            Command::Gs1Book => self.use_gs1(out),
-            Command::HallBook(words) => self.use_hall(words, out),
+            Command::Read(bytes) => self.read_scan(bytes.as_slice(), out),
+            Command::Book(choice) => self.choose(choice, out),
             Command::Begin { room } => self.begin(heap, room, out),
             Command::Add(bytes) => self.add(bytes.as_slice(), out),
             Command::Seal => self.seal(out),
         }
     }
 
+    // Calls the card, and adds how many idents came to be held, where the call tells that.
+    fn call(&mut self, call: &Call<Vec<u8>>, out: &mut Vec<u8>) -> Result<(), Undone> {
+        match obey(&mut self.card, &self.book, call)? {
+            Some(n) => writeln!(out, "ok {n}")?,
+            None => writeln!(out, "ok")?,
+        }
+        Ok(())
+    }
+
     // Adds what is answered to the bytes of one field.
-    fn field(&self, kind: FormKind, bytes: &[u8], out: &mut Vec<u8>) -> io::Result<Outcome> {
+    fn field(&self, kind: FormKind, bytes: &[u8], out: &mut Vec<u8>) -> Result<(), Undone> {
         let mut writing = [0; 30];
-        match judge(kind, self.card.year(), bytes, 0, &mut writing) {
-            Ok(reading) => {
-                write!(out, "ok ")?;
-                write_reading(&reading, &writing, out)?;
-                writeln!(out)?;
-                Ok(Outcome::Done)
-            }
-            Err(fault) => refuse(&fault, out),
-        }
+        let field = Field { bytes, at: 0 };
+        let reading = judge(kind, self.card.year(), field, &mut writing).map_err(refused)?;
+        write!(out, "ok ")?;
+        write_reading(&reading, &writing, out)?;
+        writeln!(out)?;
+        Ok(())
     }
 
-    // Adds what is answered to the bytes of a scan.
-    fn read(&self, scan: &[u8], out: &mut Vec<u8>) -> io::Result<Outcome> {
-        match &self.book {
-            BookInUse::Gs1 => read(&Gs1Book, self.card.year(), scan, out),
-            BookInUse::Hall(words) => read(&words.book(), self.card.year(), scan, out),
+    // Adds the elements of a scan, which are judged under the book and in the card's year.
+    fn read_scan(&self, scan: &[u8], out: &mut Vec<u8>) -> Result<(), Undone> {
+        let year = self.card.year();
+        let n = count_elements(&self.book, year, scan).map_err(refused)?;
+        writeln!(out, "ok {n}")?;
+        let mut at = 3;
+        // Kept: no iterator, since each item would have to carry its place and a copy of its writing, which the loop has at hand.
+        for _ in 0..n {
+            let mut writing = [0; 30];
+            let Ok(Some(element)) = next_element(&self.book, year, scan, at, &mut writing) else {
+                break;
+            };
+            write!(out, " ")?;
+            write_element(&element.entry.ident, &element.reading, &writing, out)?;
+            at = element.next;
         }
-    }
-
-    // Puts the elements of a scan on the card, and adds how many idents came to be held.
-    fn scan(&mut self, scan: &[u8], out: &mut Vec<u8>) -> io::Result<Outcome> {
-        let put = match &self.book {
-            BookInUse::Gs1 => self.card.scan(&Gs1Book, scan),
-            BookInUse::Hall(words) => self.card.scan(&words.book(), scan),
-        };
-        match put {
-            Ok(n) => tell(n, out),
-            Err(fault) => refuse(&fault, out),
-        }
-    }
-
-    // Puts the elements of a symbol on the card, and adds how many idents came to be held.
-    fn take(&mut self, values: &[u8], out: &mut Vec<u8>) -> io::Result<Outcome> {
-        let put = match &self.book {
-            BookInUse::Gs1 => self.card.take(&Gs1Book, values),
-            BookInUse::Hall(words) => self.card.take(&words.book(), values),
-        };
-        match put {
-            Ok(n) => tell(n, out),
-            Err(fault) => refuse(&fault, out),
-        }
+        Ok(())
     }
 
     // Adds the value that is held under an ident, or that none is held.
-    fn look(&self, ident: &[u8], out: &mut Vec<u8>) -> io::Result<Outcome> {
+    fn look(&self, ident: &[u8], out: &mut Vec<u8>) -> io::Result<()> {
         let mut text = [0; 30];
         match self.card.look(ident, &mut text) {
             Some(value) => write_value(&value, &text, out)?,
             None => write!(out, "none")?,
         }
-        writeln!(out)?;
-        Ok(Outcome::Done)
+        writeln!(out)
     }
 
-    // Uses the GS1 book, and adds how many entries it has.
-    fn use_gs1(&mut self, out: &mut Vec<u8>) -> io::Result<Outcome> {
-        self.book = BookInUse::Gs1;
-        tell(Gs1Book.count(), out)
-    }
-
-    // Uses the hall book of the words, and adds how many entries it has; where they are no book, keeps the one in use.
-    fn use_hall(&mut self, words: Vec<u32>, out: &mut Vec<u8>) -> io::Result<Outcome> {
-        match HallWords::new(words) {
-            Ok(hall) => {
+    // Uses a book, and adds how many entries it has; where the words are no book, keeps the one in use.
+    fn choose(&mut self, choice: BookChoice, out: &mut Vec<u8>) -> Result<(), Undone> {
+        let n = match choice {
+            BookChoice::Gs1 => {
+                self.book = BookInUse::Gs1;
+                Gs1Book.count()
+            }
+            BookChoice::Hall(words) => {
+                let hall = HallWords::new(words).map_err(refused)?;
                 let n = hall.book().count();
                 self.book = BookInUse::Hall(hall);
-                tell(n, out)
+                n
             }
-            Err(fault) => refuse(&fault, out),
-        }
+        };
+        writeln!(out, "ok {n}")?;
+        Ok(())
     }
 
     // Begins a symbol, in place of one that is open.
-    fn begin(&mut self, heap: Global, room: usize, out: &mut Vec<u8>) -> io::Result<Outcome> {
-        match OpenSymbol::begin(heap, room)? {
-            Ok(symbol) => {
-                self.symbol = Some(symbol);
-                accept(out)
-            }
-            Err(fault) => refuse(&fault, out),
-        }
+    fn begin(&mut self, heap: Global, room: usize, out: &mut Vec<u8>) -> Result<(), Undone> {
+        self.symbol = Some(OpenSymbol::begin(heap, room)?);
+        writeln!(out, "ok")?;
+        Ok(())
     }
 
     // Adds an element to the open symbol, which stays open.
-    fn add(&mut self, element: &[u8], out: &mut Vec<u8>) -> io::Result<Outcome> {
-        let Some(symbol) = self.symbol.take() else {
-            return lacks_symbol(out);
-        };
+    fn add(&mut self, element: &[u8], out: &mut Vec<u8>) -> Result<(), Undone> {
+        let symbol = self.symbol.take().ok_or(Complaint::NoOpenSymbol)?;
         match symbol.add(element) {
             Ok(symbol) => {
                 self.symbol = Some(symbol);
-                accept(out)
+                writeln!(out, "ok")?;
+                Ok(())
             }
-            Err(back) => {
-                let (symbol, fault) = back;
+            Err((symbol, fault)) => {
                 self.symbol = Some(symbol);
-                refuse(&fault, out)
+                Err(refused(fault))
             }
         }
     }
 
     // Seals the open symbol, which is then no longer open.
-    fn seal(&mut self, out: &mut Vec<u8>) -> io::Result<Outcome> {
-        let Some(symbol) = self.symbol.take() else {
-            return lacks_symbol(out);
-        };
+    fn seal(&mut self, out: &mut Vec<u8>) -> Result<(), Undone> {
+        let symbol = self.symbol.take().ok_or(Complaint::NoOpenSymbol)?;
         match symbol.seal() {
-            Ok(values) => {
-                write_values(values.as_slice(), out)?;
-                Ok(Outcome::Done)
-            }
-            Err(back) => {
-                let (symbol, fault) = back;
+            Ok(values) => Ok(write_values(values.as_slice(), out)?),
+            Err((symbol, fault)) => {
                 self.symbol = Some(symbol);
-                refuse(&fault, out)
+                Err(refused(fault))
             }
         }
     }
+}
+
+impl Program for Session {
+    type Command = Command;
+
+    ghost reads = { λ line r. Says (option_map command_asked) r (meant line) };
+
+    fn read(heap: Global, line: &[u8]) -> Result<Option<Command>, LineError> {
+        parse(heap, line)
+    }
+
+    // Counts the command, if it could be tried.
+    fn obey(&mut self, heap: Global, command: Command, out: &mut Vec<u8>) -> io::Result<()> {
+        match self.carry_out(heap, command, out) {
+            Ok(()) => {}
+            Err(Undone::Refused(refusal)) => {
+                self.refused = self.refused.saturating_add(1);
+                writeln!(out, "{refusal}")?;
+            }
+            Err(Undone::Untried(complaint)) => return writeln!(out, "{complaint}"),
+            Err(Undone::Unwritten(error)) => return Err(error),
+        }
+        self.commands = self.commands.saturating_add(1);
+        Ok(())
+    }
 
     // Adds the account.
-    pub fn account(&self, out: &mut Vec<u8>) -> io::Result<()> {
-        let commands = self.commands;
-        let refused = self.refused;
+    fn finish(&self, _heap: Global, out: &mut Vec<u8>) -> io::Result<()> {
+        let Session {
+            commands,
+            refused,
+            ..
+        } = self;
         let year = self.card.year().number();
         let held = self.card.count();
         writeln!(out, "account")?;
@@ -285,8 +211,7 @@ impl Session {
         writeln!(out, "held {held}")?;
         for place in 0..held {
             let mut writing = [0; 30];
-            if let Some(element) = self.card.element(place, &mut writing) {
-                let (ident, reading) = element;
+            if let Some((ident, reading)) = self.card.element(place, &mut writing) {
                 write_element(&ident, &reading, &writing, out)?;
             }
         }

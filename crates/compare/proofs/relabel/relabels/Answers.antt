@@ -1,41 +1,41 @@
-use Rattle.std.proofs.Common.{◌<◌, ◌≤◌, length, sym, ap, ◌∙◌, arith}
+use Rattle.std.proofs.Common.{◌≡◌, ◌++◌, [], length, sym, ap, ◌∙◌, subst, rules}
 use Rattle.std.proofs.lemmas.Slice.Eq.{slice_eq-Decides}
+use Rattle.std.proofs.lemmas.Bool.Decides.{Decides-eqb}
 use Rattle.cards.specs.Cards.{tally}
 use Rattle.cards.specs.Strings.{symbols}
-use Rattle.compare.proofs.Goes.{start, down, up, finish}
+use Rattle.compare.proofs.Goes.{down_from, up_from, Goes, start, on, over, takes_one, finish}
 use Rattle.compare.proofs.relabel.relabels.Goals as goal
-use Rattle.std.proofs.lemmas.Bool.Decides.{Decides-eqb}
 
-pub loop-left-init : goal.loop-left-init
-loop-left-init g c =
+pub loop-k-init : goal.loop-k-init
+loop-k-init g c =
     let book = c.args.book.now in
-    start (g.B.Book.entries book) (g.B.Book.lawful book) (g.B.Book.apart book) (tally c.args.card.now) c.number.result c.number.ensures.span (c.number.ensures.is ∙ ap (λ y. y.number) c.year.ensures) c.make-fresh.result c.turn.new.self c.turn.result c.symbols-count.result c.make-fresh.ensures c.turn.ensures c.symbols-count.ensures
+    let n = length (symbols (tally c.args.card.now)) in
+    let s = start (g.B.Book.entries book) (g.B.Book.lawful book) (g.B.Book.apart book) (tally c.args.card.now) c.number.result c.number.ensures.span (c.number.ensures.is ∙ ap (λ y. y.number) c.year.ensures) c.make-fresh.result c.turn.new.self c.turn.result c.symbols-count.result c.make-fresh.ensures c.turn.ensures c.symbols-count.ensures in
+    (search rules, search rules, (down_from c.symbols-count.result ++ up_from 0 n, record { bottom = search rules; low = search rules; top = search rules; goes = search rules; left = search rules }, s.1))
 
-pub returns-then-not-accepted : goal.returns-then-not-accepted
-returns-then-not-accepted g c = λ p e s.
-    sym c.if-not-accepted.true
-    ∙ (down (g.B.Book.entries c.args.book.now) (tally c.args.card.now) (tally c.loop-left.fresh) (tally c.takes.new.fresh) c.loop-left.left c.in_ok-accepted.accepted c.loop-left-test.true c.loop-left.invariant.0 c.loop-left.invariant.1 c.in_ok-accepted.ensures).0 p e
-
-pub loop-left-preserved : goal.loop-left-preserved
-loop-left-preserved g c = (
-  omega (arith, c.loop-left.invariant.0),
-  (down (g.B.Book.entries c.args.book.now) (tally c.args.card.now) (tally c.loop-left.fresh) (tally c.takes.new.fresh) c.loop-left.left c.in_ok-accepted.accepted c.loop-left-test.true c.loop-left.invariant.0 c.loop-left.invariant.1 c.in_ok-accepted.ensures).1,
-)
-
-pub returns-then-not-accepted-2 : goal.returns-then-not-accepted-2
-returns-then-not-accepted-2 g c = λ p e s.
-    let within : c.loop-k.k < length (symbols (tally c.args.card.now)) = omega (arith, c.loop-k-test.true, c.symbols-count.ensures) in
-    sym c.if-not-accepted-2.true
-    ∙ (up (g.B.Book.entries c.args.book.now) (tally c.args.card.now) (tally c.loop-k.fresh) (tally c.takes-in-loop-k.new.fresh) c.loop-k.k c.in_ok-accepted-2.accepted within c.loop-k.invariant c.in_ok-accepted-2.ensures).0 p e
+pub returns-then-not-branch : goal.returns-then-not-branch
+returns-then-not-branch g c = λ p e s.
+    let t = tally c.args.card.now in
+    let w = c.loop-k.invariant.2 in
+    let o = on (length (symbols t)) c.loop-k.k-iterator c.next.new.self c.in-Some.k w.0 w.1 c.in-Some.ensures.steps in
+    let h = subst (λ ks. Goes (g.B.Book.entries c.args.book.now) t (tally c.loop-k.fresh) ks) o.1.1 w.2 in
+    sym c.if-not-branch.true
+    ∙ (takes_one (g.B.Book.entries c.args.book.now) t (tally c.loop-k.fresh) (tally c.takes.new.fresh) c.in-Some.k o.1.0 c.in_ok-takes.field-0 o.0 h c.in_ok-takes.ensures).0 p e
 
 pub loop-k-preserved : goal.loop-k-preserved
 loop-k-preserved g c =
-    let within : c.loop-k.k < length (symbols (tally c.args.card.now)) = omega (arith, c.loop-k-test.true, c.symbols-count.ensures) in
-    (up (g.B.Book.entries c.args.book.now) (tally c.args.card.now) (tally c.loop-k.fresh) (tally c.takes-in-loop-k.new.fresh) c.loop-k.k c.in_ok-accepted-2.accepted within c.loop-k.invariant c.in_ok-accepted-2.ensures).1
+    let t = tally c.args.card.now in
+    let w = c.loop-k.invariant.2 in
+    let o = on (length (symbols t)) c.loop-k.k-iterator c.next.new.self c.in-Some.k w.0 w.1 c.in-Some.ensures.steps in
+    let h = subst (λ ks. Goes (g.B.Book.entries c.args.book.now) t (tally c.loop-k.fresh) ks) o.1.1 w.2 in
+    (search rules, search rules, (o.1.0, o.1.2, (takes_one (g.B.Book.entries c.args.book.now) t (tally c.loop-k.fresh) (tally c.takes.new.fresh) c.in-Some.k o.1.0 c.in_ok-takes.field-0 o.0 h c.in_ok-takes.ensures).1))
 
 pub returns : goal.returns
 returns g c = λ p e s.
     let book = c.args.book.now in
-    let left : length (symbols (tally c.args.card.now)) ≤ c.loop-k.k = omega (arith, c.loop-k-test.false, c.symbols-count.ensures) in
-    let same = finish (g.B.Book.entries book) (g.B.Book.lawful book) (g.B.Book.apart book) (tally c.args.card.now) c.number.result c.number.ensures.span (c.number.ensures.is ∙ ap (λ y. y.number) c.year.ensures) (tally c.loop-k.fresh) c.loop-k.k c.args.string.now c.as_slice.result.now left c.loop-k.invariant (c.as_slice.ensures.value ∙ c.in_ok-again.ensures) p e s in
+    let t = tally c.args.card.now in
+    let w = c.loop-k.invariant.2 in
+    let none : w.0 ≡ [] = over (length (symbols t)) c.loop-k.k-iterator c.next.new.self w.0 w.1 c.in-None.ensures.steps in
+    let h = subst (λ ks. Goes (g.B.Book.entries book) t (tally c.loop-k.fresh) ks) none w.2 in
+    let same = finish (g.B.Book.entries book) (g.B.Book.lawful book) (g.B.Book.apart book) t c.number.result c.number.ensures.span (c.number.ensures.is ∙ ap (λ y. y.number) c.year.ensures) (tally c.loop-k.fresh) c.args.string.now c.as_slice.result.now h (c.as_slice.ensures.value ∙ c.in_ok-again.ensures) p e s in
     (slice_eq-Decides Decides-eqb c.as_slice.result.now c.args.string.now c.eq.result c.eq.ensures).1 same
