@@ -1,6 +1,6 @@
 // The book of a hall, spelled by words.
 ghost use Rattle.std.specs.Prelude.{◌≡◌, ◌≤◌, T, [], length, Some, None, MatchResult};
-ghost use Rattle.books.specs.Entries.{listed};
+ghost use Rattle.books.specs.Entries.{listed, found};
 ghost use Rattle.books.specs.Words.{word_entry, is_book};
 ghost use Rattle.books.specs.Sound.{all_lawful_lem, book_free};
 ghost use Rattle.books.specs.Loads.{first_fault};
@@ -46,6 +46,13 @@ impl<'a> HallBook<'a> {
         self.words = words;
         Ok(())
     }
+}
+
+// The first of the entries that the words spell whose ident the bytes begin with. Words that are a book have at most one.
+pub fn find_word(words: &[u32], shown: &[u8]) -> Option<Entry>
+    ensures { result ≡ found (listed word_entry words.now) shown.now }
+{
+    look(words, shown)
 }
 
 impl<'a> Book for HallBook<'a> {

@@ -9,7 +9,7 @@ use books::hall::HallBook;
 // Words that are a hall's book, to be kept.
 #[derive(Drop)]
 pub struct HallWords {
-    words: Vec<u32>,
+    pub(crate) words: Vec<u32>,
     ghost ok: { T (is_book words.items) },
 }
 

@@ -5,6 +5,7 @@ use crate::book::HallWords;
 use books::book::Book;
 use books::entry::Entry;
 use books::gs1::Gs1Book;
+use books::hall::find_word;
 
 // The book in use.
 #[derive(Drop)]
@@ -25,7 +26,7 @@ impl Book for BookInUse {
     fn find(&self, shown: &[u8]) -> Option<Entry> {
         match self {
             BookInUse::Gs1 => Gs1Book.find(shown),
-            BookInUse::Hall(words) => words.book().find(shown),
+            BookInUse::Hall(hall) => find_word(hall.words.as_slice(), shown),
         }
     }
 }
