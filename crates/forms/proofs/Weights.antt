@@ -6,14 +6,14 @@ use Rattle.forms.specs.Bytes.{digit, every}
 use Rattle.forms.specs.Keys.{weight, weighted}
 use Rattle.forms.specs.Writings.{digit-range}
 
-weight-most : (r : ℕ) → weight r ≤ 3
+pub weight-most : (r : ℕ) → weight r ≤ 3
 weight-most r = cond_both (eqb (r % 2) 1) 3 1 (λ w. w ≤ 3) (λ _. omega arith) (λ _. omega arith)
 
 -- a digit weighs at most 27
-weighs_most : (w b : ℕ) → w ≤ 3 → b ≤ 57 → w * (b - 48) ≤ 27
+pub weighs_most : (w b : ℕ) → w ≤ 3 → b ≤ 57 → w * (b - 48) ≤ 27
 weighs_most w b h k = mul-le-mul {n₁ = w} {m₁ = b - 48} {n₂ = 3} {m₂ = 9} h (omega arith)
 
-weighted-most : (f : List ℕ) → every digit f ≡ true → weighted f ≤ 27 * length f
+pub weighted-most : (f : List ℕ) → every digit f ≡ true → weighted f ≤ 27 * length f
 weighted-most [] h = omega arith
 weighted-most (c ∷ cs) h =
     let p = and_parts _ _ h in

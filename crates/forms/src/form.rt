@@ -40,6 +40,13 @@ pub trait Form {
     // the first fault of the field f in the year y, where f begins at the place p
     ghost fault: { ℕ → ℕ → List ℕ → Option FieldFault };
 
+    // The longest field.
+    fn longest() -> usize
+        ensures { result ≡ MAX }
+    {
+        Self::MAX
+    }
+
     // The value of a field of any bytes that begins at any place, or its first fault.
     fn read(year: Year, field: Field<'_>) -> Result<Self::Value, FieldFault>
         ensures { result ≡ answered (fault year.number field.entry.at field.entry.bytes.now) (worth year.number field.entry.bytes.now) };

@@ -17,7 +17,7 @@ starts-within (x ∷ xs) [] h = absurd (grind arith)
 starts-within (x ∷ xs) (y ∷ ys) h = let r = starts-within xs ys (and_parts _ _ h).1 in omega arith
 
 -- the digits of the ident that is found stand there
-found_within : (es : List Entry) (s : List ℕ) → IfSome (found es s) (λ e. e.ident.digits ≤ length s)
+pub found_within : (es : List Entry) (s : List ℕ) → IfSome (found es s) (λ e. e.ident.digits ≤ length s)
 found_within [] s = tt
 found_within (e ∷ es) s =
     cond_both (starts (text e) s) (Some e) (found es s) (λ o. IfSome o (λ d. d.ident.digits ≤ length s))
