@@ -21,6 +21,12 @@ use Rattle.cards.specs.Tallies.{Held, ident}
 use Rattle.cards.specs.Strings.{piece, parting, ending, spelled, reached, symbol_of}
 use Rattle.cards.proofs.Fitting.{Fits}
 
+-- PREDEFINED LENGTHS
+
+-- symbols and books predefine the same lengths
+predefined-alike : (n : ℕ) → predefined n ≡ whole n
+predefined-alike n = refl
+
 -- A PIECE
 
 pub piece-long : (x : Held) → length (piece x) ≡ x.entry.ident.digits + length (written x.value)

@@ -7,7 +7,7 @@ ghost use Rattle.cards.specs.Rows.{held_in};
 ghost use Rattle.cards.specs.Strings.{spelled, runs};
 
 use crate::row::Row;
-use crate::strings::piece;
+use crate::strings::piece_length;
 
 // As many bytes of data as a symbol may have.
 const MOST: usize = 48;
@@ -24,7 +24,7 @@ fn run_length(rows: &[Row]) -> usize
     let mut separator = 0;
     // Kept: a `for` with an index, since what is looked for is where a running sum passes a bound.
     for (i, row) in rows.iter().enumerate() {
-        let with = bytes + separator + piece(row).as_slice().len();
+        let with = bytes + separator + piece_length(row);
         if with > MOST {
             return i;
         }

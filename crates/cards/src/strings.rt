@@ -1,5 +1,5 @@
 // The canonical string of a card.
-ghost use Rattle.std.specs.Prelude.{◌≡◌, ◌+◌, ◌≤◌, false, map, ◌++◌, length};
+ghost use Rattle.std.specs.Prelude.{◌≡◌, ◌+◌, ◌≤◌, false, [], map, ◌++◌, length};
 ghost use Rattle.buffers.specs.Shown.{shown};
 ghost use Rattle.cards.specs.Rows.{held_in};
 ghost use Rattle.cards.specs.Cards.{tally};
@@ -21,31 +21,47 @@ pub(crate) fn put<const N: usize>(buffer: &mut Buffer<N>, bytes: &[u8])
     buffer.push(bytes).unwrap();
 }
 
-// A row's element as it is written: ident and writing.
+// Puts a row's element as it is written, ident and writing, behind the bytes of a buffer that has room for it.
+fn put_piece<const N: usize>(buffer: &mut Buffer<N>, row: &Row)
+    requires { length (shown buffer.old) + 34 ≤ N }
+    ensures is { shown buffer.new ≡ shown buffer.old ++ piece (held_in row.now) }
+    ensures most { length (shown buffer.new) ≤ length (shown buffer.old) + 34 }
+{
+    put(buffer, row.entry.ident.text().as_slice());
+    put(buffer, row.writing());
+}
+
+// A row's element as it is written.
 pub(crate) fn piece(row: &Row) -> Buffer<34>
     ensures { shown result ≡ piece (held_in row.now) }
 {
     let mut piece = Buffer::new();
-    put(&mut piece, row.entry.ident.text().as_slice());
-    put(&mut piece, row.writing());
+    put_piece(&mut piece, row);
     piece
 }
 
-// Rows one behind the other, with the separators between them.
-fn spell(rows: &[Row]) -> Buffer<LONGEST>
-    requires { length rows.now ≤ 32 }
-    ensures { shown result ≡ spelled_after false (map held_in rows.now) }
+// How many bytes a row's element has as it is written.
+pub(crate) fn piece_length(row: &Row) -> usize
+    ensures is { result ≡ length (piece (held_in row.now)) }
+    ensures most { result ≤ 34 }
 {
-    let mut string = Buffer::new();
+    usize::from(row.entry.ident.digits) + row.writing().len()
+}
+
+// Puts rows one behind the other, with the separators between them, into an empty buffer.
+fn spell(rows: &[Row], string: &mut Buffer<LONGEST>)
+    requires few { length rows.now ≤ 32 }
+    requires empty { shown string.old ≡ [] }
+    ensures { shown string.new ≡ spelled_after false (map held_in rows.now) }
+{
     let mut pending = false;
     for row in rows {
         if pending {
-            put(&mut string, &[29]);
+            put(string, &[29]);
         }
-        put(&mut string, piece(row).as_slice());
+        put_piece(string, row);
         pending = !row.entry.ident.predefined();
     }
-    string
 }
 
 // Writes bytes over the first of `out`, or refuses where it is too short, and `out` stays.
@@ -65,7 +81,8 @@ impl Card {
     pub fn canonical(&self, out: &mut [u8]) -> Result<usize, WriterFault>
         ensures { Writes (canonical (tally self.now)) out.old out.new result }
     {
-        let string = spell(self.held());
+        let mut string = Buffer::new();
+        spell(self.held(), &mut string);
         write_over(string.as_slice(), out)
     }
 }

@@ -7,5 +7,5 @@ use Rattle.cards.proofs.card.Card.canonical.Goals as goal
 pub returns : goal.returns
 returns c =
     let s = c.args.self.now in
-    let bytes : c.as_slice.result.now ≡ spelled (first_held s.len s.rows) = c.as_slice.ensures ∙ c.spell-string.ensures ∙ ap (λ rs. spelled_after false (map held_in rs)) c.held.ensures ∙ spelled-after (first_held s.len s.rows) in
+    let bytes : c.as_slice.result.now ≡ spelled (first_held s.len s.rows) = c.as_slice.ensures ∙ c.spell.ensures ∙ ap (λ rs. spelled_after false (map held_in rs)) c.held.ensures ∙ spelled-after (first_held s.len s.rows) in
     subst (λ xs. Writes xs c.args.out.now c.write_over.new.out c.write_over.result) bytes c.write_over.ensures
