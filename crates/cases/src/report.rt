@@ -1,5 +1,6 @@
 // The lines of the cases, and how many there are.
 use crate::case::{Case, Input};
+use desk::refusal::add_refusal;
 use desk::undone::Undone;
 use std::alloc::Global;
 use std::io;
@@ -59,7 +60,7 @@ impl Report {
             let mut came = Vec::new(heap);
             match case.input.run(heap, &mut came) {
                 Ok(()) => {}
-                Err(Undone::Refused(refusal)) => write!(came, "{refusal}")?,
+                Err(Undone::Refused(refusal)) => add_refusal(heap, &refusal, &mut came)?,
                 Err(Undone::Untried(complaint)) => write!(came, "{complaint}")?,
                 Err(Undone::Unwritten(error)) => return Err(error),
             }

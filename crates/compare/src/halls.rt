@@ -12,7 +12,7 @@ use commands::line::BookChoice;
 use desk::book::HallWords;
 use desk::in_use::BookInUse;
 use desk::program::Program;
-use forms::refusal::Refusal;
+use desk::refusal::write_refusal;
 use std::alloc::Global;
 use std::io;
 use std::io::Write;
@@ -45,7 +45,7 @@ impl Halls {
     }
 
     // Uses a book, if there was no call yet; where it is no book, adds that, and keeps the one in use.
-    fn choose(&mut self, choice: BookChoice, out: &mut Vec<u8>) -> io::Result<()> {
+    fn choose(&mut self, heap: Global, choice: BookChoice, out: &mut Vec<u8>) -> io::Result<()> {
         if !self.first.is_empty() || !self.second.is_empty() {
             let complaint = Complaint::TooLate;
             return writeln!(out, "{complaint}");
@@ -55,8 +55,8 @@ impl Halls {
             BookChoice::Hall(words) => match HallWords::new(words) {
                 Ok(hall) => self.book = BookInUse::Hall(hall),
                 Err(fault) => {
-                    let refusal = Refusal::of(&fault);
-                    writeln!(out, "{refusal}")?;
+                    write_refusal(heap, &fault, out)?;
+                    writeln!(out)?;
                 }
             },
         }
@@ -74,10 +74,10 @@ impl Program for Halls {
     }
 
     // Keeps what a line says. Nothing is answered to a call, or to a book that is used from here on.
-    fn obey(&mut self, _heap: Global, command: HallCommand, out: &mut Vec<u8>) -> io::Result<()> {
+    fn obey(&mut self, heap: Global, command: HallCommand, out: &mut Vec<u8>) -> io::Result<()> {
         match command {
             HallCommand::Call { hall, call } => self.keep(hall, call),
-            HallCommand::Book(choice) => self.choose(choice, out),
+            HallCommand::Book(choice) => self.choose(heap, choice, out),
         }
     }
 

@@ -7,7 +7,7 @@ use calls::call::Call;
 use commands::error::Failure;
 use commands::hall::Hall;
 use commands::show::show;
-use forms::refusal::Refusal;
+use desk::refusal::write_refusal;
 use std::alloc::Global;
 use std::io;
 use std::io::Write;
@@ -54,8 +54,8 @@ pub fn write_report<B: Book>(
     let (first, second) = match settle_calls(heap, book, first_calls, second_calls) {
         Ok(both) => both,
         Err(Failure::Refused(fault)) => {
-            let refusal = Refusal::of(&fault);
-            return writeln!(out, "{refusal}");
+            write_refusal(heap, &fault, out)?;
+            return writeln!(out);
         }
         Err(Failure::Memory(lack)) => return Err(lack.into()),
     };

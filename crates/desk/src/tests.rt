@@ -1,9 +1,12 @@
 ghost use Rattle.std.specs.Prelude.{⊤};
 
 use crate::program::{Program, run};
+use crate::refusal::{add_refusal, write_refusal};
 use commands::error::LineError;
 use commands::line::Command;
 use commands::parse::parse;
+use forms::fault::FieldFault;
+use forms::refusal::Refusal;
 use std::alloc::Global;
 use std::io;
 use std::io::Write;
@@ -43,5 +46,16 @@ fn answers(rt: HostRuntime) -> Result<(), Fail> {
     assert!(rt;
         output.as_slice() == b"one\n? bad number\n? bad escape\none\n2 in all\n".as_slice()
     );
+    Ok(())
+}
+
+#[test]
+fn refusals(rt: HostRuntime) -> Result<(), Fail> {
+    let fault = FieldFault::CheckDigit { place: 13 };
+    let mut out = Vec::new(rt.alloc());
+    write_refusal(rt.alloc(), &fault, &mut out)?;
+    out.push(b'\n')?;
+    add_refusal(rt.alloc(), &Refusal::of(&fault), &mut out)?;
+    assert!(rt; out.as_slice() == b"refused 6 field 13\nrefused 6 field 13".as_slice());
     Ok(())
 }
